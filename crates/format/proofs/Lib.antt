@@ -1,0 +1,5 @@
+pub mod Bytes
+pub mod Text
+pub mod Fields
+pub mod Runs
+pub mod Heads

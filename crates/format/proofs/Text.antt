@@ -1,0 +1,84 @@
+-- UTF-8, byte by byte, and its short cut: bytes whose number has no high bit set are ASCII, which is well formed.
+-- Assumes nothing.
+use mathlib.Core.Path.{_≡_, refl, ap, sym, _∙_}
+use mathlib.Core.List.{List, [], _∷_, _++_}
+use mathlib.Core.Bool.{Bool, true, false, cond}
+use Prim.Native.Nat.{ℕ, zero, suc, _+_, _*_, _/_, _^_, _-_, _<_, _≤_}
+use native.Mathlib.Numerals.{add-one, sub-one}
+use native.Mathlib.Omega.{arith}
+use lib.Bits.{bitAnd, and-block, and-shr}
+use lib.Dec.{leb, lit<}
+use lib.ListN.{length, getD, replicate}
+use lib.Seq.{drop-cons}
+use borrow.Author.Tests.{lt-ltb, leb-true, leb-false}
+use Rattle.format.specs.Layout.{beFrom, be, part}
+use Rattle.format.specs.Utf8.{Utf, fresh, tail, bad, due, lead, utfStep, utfRun, isFresh, wellFormed}
+use Rattle.format.proofs.Bytes.{Bytes, part-split, part-more, be-more}
+
+-- a run over two parts, one after the other
+utf-append : (u : Utf) (xs ys : List ℕ) → utfRun u (xs ++ ys) ≡ utfRun (utfRun u xs) ys
+unfolding utfRun
+utf-append u [] ys = refl
+utf-append u (x ∷ xs) ys = utf-append (utfStep u x) xs ys
+
+pub utf-split : (u : Utf) (s : List ℕ) (at i j : ℕ) → utfRun u (part s at (i + j)) ≡ utfRun (utfRun u (part s at i)) (part s (at + i) j)
+utf-split u s at i j = rw (part-split s at i j, utf-append)
+
+utf-more : (u : Utf) (s : List ℕ) (at w : ℕ) → at + w < length s
+    → utfRun u (part s at (w + 1)) ≡ utfStep (utfRun u (part s at w)) (getD s (at + w) 0)
+unfolding utfRun
+utf-more u s at w h = rw (part-more s at w h, utf-append)
+
+utf-one : (u : Utf) (s : List ℕ) (at : ℕ) → at < length s → utfRun u (part s at 1) ≡ utfStep u (getD s at 0)
+unfolding utfRun
+utf-one u s at h = rw (drop-cons s at 0)
+
+pub utf-four : (u : Utf) (s : List ℕ) (at : ℕ) → at + 4 ≤ length s
+    → utfRun u (part s at 4)
+    ≡ utfStep (utfStep (utfStep (utfStep u (getD s at 0)) (getD s (at + 1) 0)) (getD s (at + 2) 0)) (getD s (at + 3) 0)
+utf-four u s at h = rw (utf-more u s at 3 (omega arith), utf-more u s at 2 (omega arith), utf-more u s at 1 (omega arith), utf-one u s at (omega arith))
+
+-- the steps inside a sequence
+pub tail-step : {n : ℕ} → (n ≡ 0 → ⊥) → (lo hi b : ℕ) → utfStep (tail n lo hi) b ≡ cond (leb lo b) (cond (leb b hi) (due (n - 1)) bad) bad
+unfolding utfStep
+tail-step {n = zero} h lo hi b = absurd (h refl)
+tail-step {n = suc n} h lo hi b = rw sub-one
+
+pub due-tail : (n : ℕ) → (n ≡ 0 → ⊥) → due n ≡ tail n 0x80 0xbf
+due-tail zero h = absurd (h refl)
+due-tail (suc n) h = refl
+
+-- w bytes of which each has its high bit set and no other: the mask that the short cut tests
+abbrev pub highs : ℕ → ℕ
+highs zero = 0
+highs (suc w) = highs w * 256 + 128
+
+no-high : (b : ℕ) → b < 256 → bitAnd b 128 ≡ 0 → b < 128
+no-high b h e = go (leb 128 b) refl
+  where
+    go : (t : Bool) → leb 128 b ≡ t → b < 128
+    go false q = leb-false 128 b q
+    go true q =
+        let l : 128 ≤ b = leb-true 128 b q in
+        let d : b / 128 ≡ 1 = omega arith in
+        let z : bitAnd b 128 / 2 ^ 7 ≡ 1 = and-shr b 128 7 ∙ ap (λ n. bitAnd n 1) d in
+        let y : bitAnd b 128 / 2 ^ 7 ≡ 0 = ap (λ n. n / 2 ^ 7) e in
+        absurd (omega arith)
+
+ascii-run : (s : List ℕ) (at w : ℕ) → Bytes s → at + w ≤ length s → bitAnd (be (part s at w)) (highs w) ≡ 0 → utfRun fresh (part s at w) ≡ fresh
+unfolding utfRun utfStep
+ascii-run s at zero b h e = refl
+ascii-run s at (suc w) b h e =
+    let x : ℕ = getD s (at + w) 0 in
+    let m : be (part s at (w + 1)) ≡ be (part s at w) * 256 + x = be-more s at w (omega arith) in
+    let k : bitAnd (be (part s at w) * 2 ^ 8 + x) (highs w * 2 ^ 8 + 128) ≡ bitAnd (be (part s at w)) (highs w) * 2 ^ 8 + bitAnd x 128 =
+    and-block 8 (be (part s at w)) (highs w) x 128 (b (at + w)) (lit< tt) in
+    let z : bitAnd (be (part s at w)) (highs w) * 256 + bitAnd x 128 ≡ 0 = sym k ∙ ap (λ n. bitAnd n (highs (suc w))) (sym m ∙ ap (λ n. be (part s at n)) (add-one w)) ∙ e in
+    let l : x < 128 = no-high x (b (at + w)) (omega arith) in
+    rw (← add-one w, utf-more fresh s at w (omega arith), ascii-run s at w b (omega arith) (omega arith)) (rw (lt-ltb x 128 l))
+
+-- the short cut, as the leaves of 4 and 8 bytes take it
+pub ascii : (w : ℕ) (s : List ℕ) (at : ℕ) {v : ℕ} → Bytes s → at + w ≤ length s → v ≡ be (part s at w) → bitAnd v (highs w) ≡ 0
+    → wellFormed (part s at w) ≡ true
+unfolding wellFormed
+ascii w s at b h e z = ap isFresh (ascii-run s at w b h (ap (λ n. bitAnd n (highs w)) (sym e) ∙ z))

@@ -1,0 +1,52 @@
+-- `format::text4` meets its contract.
+-- Assumes nothing.
+use mathlib.Core.Path.{sym, _∙_}
+use Rattle.format.specs.Layout.{text}
+use Rattle.format.proofs.Fields.{field-short, field-text, field-no-text}
+use Rattle.format.proofs.Text.{ascii}
+use borrow.Author.Needs.{needs}
+use Rattle.format.proofs.text4.Statement.{statement}
+use Rattle.format.proofs.text4.Tie as tie
+
+add-if1 : tie.Need-add-if1
+add-if1 c = search needs
+
+returns : tie.Need-returns
+returns c = field-short (text 4) _ _ (c .if1 .taken)
+
+be4-requires : tie.Need-be4-requires
+be4-requires c κs = search needs
+
+cast-t10 : tie.Need-cast-t10
+cast-t10 c = search needs
+
+returns-2 : tie.Need-returns-2
+returns-2 c =
+    field-text 4 _ _ (c .before .before .if1 .left) (c .before .be4 .ensures .0)
+    (ascii 4 _ _ (λ i. c .before .before .before .shared-slice-known .given i .fits) (c .before .before .if1 .left) (c .before .be4 .ensures .0) (c .if2 .taken))
+
+well-formed-requires : tie.Need-well-formed-requires
+well-formed-requires c κs = search needs
+
+cast-t13 : tie.Need-cast-t13
+cast-t13 c = search needs
+
+returns-3 : tie.Need-returns-3
+returns-3 c = field-text 4 _ _ (c .before .before .before .before .if1 .left) (c .before .before .before .be4 .ensures .0) (sym (c .before .well-formed .ensures) ∙ c .if3 .taken)
+
+returns-4 : tie.Need-returns-4
+returns-4 c = field-no-text 4 _ _ (c .before .before .before .before .if1 .left) (sym (c .before .well-formed .ensures) ∙ c .if3 .left)
+
+pub text4-spec : {M : Type 1} → statement M
+text4-spec =
+    tie.close
+    (tie.spec
+    add-if1
+    returns
+    be4-requires
+    cast-t10
+    returns-2
+    well-formed-requires
+    cast-t13
+    returns-3
+    returns-4)

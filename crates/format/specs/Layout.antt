@@ -1,0 +1,101 @@
+-- What reading a row of fields answers. A row is a list of field kinds, and one interpreter, `read`, takes its fields in order.
+-- Assumes nothing.
+use Prim.Native.Nat.{ℕ, _+_, _*_}
+use mathlib.Core.List.{List, [], _∷_, _++_}
+use mathlib.Core.Bool.{Bool, true, false, cond, _||_}
+use lib.Dec.{leb, eqb}
+use lib.ListN.{length, take, drop}
+use Rattle.format.specs.Ascii.{'Y', 'M'}
+use Rattle.format.specs.Codes.{etpFlag, subtypes}
+use Rattle.format.specs.Utf8.{wellFormed}
+
+-- a field: a number of w bytes; the timestamp; a text of w bytes; a code of a set; the ETP flag; the issue subtype; any byte, not kept
+pub data Kind : Type 0 where
+  num : ℕ → Kind
+  time : Kind
+  text : ℕ → Kind
+  code : List ℕ → Kind
+  etp : Kind
+  subtype : Kind
+  skip : Kind
+
+abbrev pub width : Kind → ℕ
+width (num w) = w
+width time = 6
+width (text w) = w
+width (code set) = 1
+width etp = 1
+width subtype = 2
+width skip = 1
+
+-- the bytes of a row
+abbrev pub widths : List Kind → ℕ
+widths [] = 0
+widths (k ∷ ks) = width k + widths ks
+
+-- big-endian: the number that bytes are, after a number before them
+abbrev pub beFrom : ℕ → List ℕ → ℕ
+beFrom v [] = v
+beFrom v (b ∷ bs) = beFrom (v * 256 + b) bs
+
+abbrev pub be : List ℕ → ℕ
+be bs = beFrom 0 bs
+
+abbrev pub member : ℕ → List ℕ → Bool
+member b [] = false
+member b (x ∷ xs) = eqb b x || member b xs
+
+-- what a field's bytes are judged to be: the value that it gives (none if it is not kept); or a refusal's number, and its place counted from
+-- the field's first byte
+pub data Verdict : Type 0 where
+  fine : List ℕ → Verdict
+  wrong : ℕ → ℕ → Verdict
+
+-- of the ETP codes M reads as yes
+abbrev pub asYes : ℕ → ℕ
+asYes b = cond (eqb b 'M') 'Y' b
+
+-- the judgement of each kind of field: an illegal code is 2, a text that is not UTF-8 is 3, each at the field's first byte
+unfoldable pub judge : Kind → List ℕ → Verdict
+judge (num w) bs = fine (be bs ∷ [])
+judge time bs = fine (be bs ∷ [])
+judge (text w) bs = cond (wellFormed bs) (fine (be bs ∷ [])) (wrong 3 0)
+judge (code set) bs = cond (member (be bs) set) (fine (be bs ∷ [])) (wrong 2 0)
+judge etp bs = cond (member (be bs) etpFlag) (fine (asYes (be bs) ∷ [])) (wrong 2 0)
+judge subtype bs = cond (member (be bs) subtypes) (fine (be bs ∷ [])) (wrong 2 0)
+judge skip bs = fine []
+
+-- what a field answers: its value; not all of its bytes are there; refused, with number and place
+pub data Got : Type 0 where
+  got : List ℕ → Got
+  short : Got
+  refused : ℕ → ℕ → Got
+
+abbrev pub placed : ℕ → Verdict → Got
+placed at (fine v) = got v
+placed at (wrong n o) = refused n (at + o)
+
+-- the w bytes from a place on
+abbrev pub part : List ℕ → ℕ → ℕ → List ℕ
+part s at w = take w (drop at s)
+
+-- a field at a place of a window: judged as soon as its last byte is there
+unfoldable pub field : Kind → List ℕ → ℕ → Got
+field k s at = cond (leb (at + width k) (length s)) (placed at (judge k (part s at (width k)))) short
+
+-- what reading a window answers: accepted, with all values and the bytes consumed; incomplete; refused, with number and place
+pub data Answer : Type 0 where
+  accepted : List ℕ → ℕ → Answer
+  incomplete : Answer
+  refuses : ℕ → ℕ → Answer
+
+-- a field's value goes on; a field that is short makes the window incomplete; the first bad field gives the refusal
+abbrev pub step : Got → (List ℕ → Answer) → Answer
+step (got v) go = go v
+step short go = incomplete
+step (refused n p) go = refuses n p
+
+-- the fields in order, from a place on, after the values vs; then `go` has all the values and the place behind the last field
+abbrev pub read : List Kind → List ℕ → ℕ → List ℕ → (List ℕ → ℕ → Answer) → Answer
+read [] s at vs go = go vs at
+read (k ∷ ks) s at vs go = step (field k s at) (λ v. read ks s (at + width k) (vs ++ v) go)

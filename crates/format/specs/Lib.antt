@@ -1,0 +1,6 @@
+pub mod Ascii
+pub mod Codes
+pub mod Utf8
+pub mod Layout
+pub mod Rows
+pub mod Meaning

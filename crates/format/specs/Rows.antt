@@ -1,0 +1,116 @@
+-- The layouts: the header, the 21 rows, and what reading one window answers.
+-- Assumes nothing.
+use Prim.Native.Nat.{ℕ}
+use mathlib.Core.List.{List, [], _∷_, _++_}
+use mathlib.Core.Bool.{cond}
+use lib.Dec.{eqb}
+use lib.ListN.{getD, drop}
+use Rattle.format.specs.Ascii.{'A', 'B', 'C', 'D', 'E', 'F', 'H', 'I', 'J', 'K', 'L', 'N', 'P', 'Q', 'R', 'S', 'U', 'V', 'W', 'X', 'Y'}
+use Rattle.format.specs.Codes.{side, yesNo, tradingState, direction, imbalanceCross, qualifier, makerMode, participantState, interest, cross, category, status, class, authenticity, flag, tier, event, level, action}
+use Rattle.format.specs.Layout.{Kind, num, time, text, code, etp, subtype, skip, Answer, accepted, refuses, read}
+
+-- a tag, its size from the tag on, and the fields of its body
+pub record Row : Type 0 where
+  pub tag : ℕ
+  pub size : ℕ
+  pub body : List Kind
+
+abbrev pub row : ℕ → ℕ → List Kind → Row
+row t n ks = record { tag = t; size = n; body = ks }
+
+-- what A, F and P begin with: reference, side, shares, stock, price
+abbrev pub order : List Kind
+order = num 8 ∷ code side ∷ num 4 ∷ text 8 ∷ num 4 ∷ []
+
+-- what C and E begin with: reference, executed, match number
+abbrev pub execution : List Kind
+execution = num 8 ∷ num 4 ∷ num 8 ∷ []
+
+abbrev pub rows : List Row
+rows =
+    -- add order: as above; with mpid
+    row 'A' 36 order
+    ∷ row 'F' 40 (order ++ (text 4 ∷ []))
+    -- broken trade: match number; delete order: reference
+    ∷ row 'B' 19 (num 8 ∷ [])
+    ∷ row 'D' 19 (num 8 ∷ [])
+    -- order executed with price: as E, then printable, price
+    ∷ row 'C' 36 (execution ++ (code yesNo ∷ num 4 ∷ []))
+    -- order executed: as above
+    ∷ row 'E' 31 execution
+    -- trading action: stock, state, reserved, reason
+    ∷ row 'H' 25 (text 8 ∷ code tradingState ∷ skip ∷ text 4 ∷ [])
+    -- imbalance: paired, imbalance, direction, stock, far, near, reference price, cross, variation
+    ∷ row 'I' 50 (num 8 ∷ num 8 ∷ code direction ∷ text 8 ∷ num 4 ∷ num 4 ∷ num 4 ∷ code imbalanceCross ∷ num 1 ∷ [])
+    -- LULD auction collar: stock, three prices, extension
+    ∷ row 'J' 35 (text 8 ∷ num 4 ∷ num 4 ∷ num 4 ∷ num 4 ∷ [])
+    -- IPO quoting period: stock, release time, qualifier, price
+    ∷ row 'K' 28 (text 8 ∷ num 4 ∷ code qualifier ∷ num 4 ∷ [])
+    -- participant position: mpid, stock, primary, mode, state
+    ∷ row 'L' 26 (text 4 ∷ text 8 ∷ code yesNo ∷ code makerMode ∷ code participantState ∷ [])
+    -- retail price improvement: stock, interest
+    ∷ row 'N' 20 (text 8 ∷ code interest ∷ [])
+    -- trade: as A, then match number
+    ∷ row 'P' 44 (order ++ (num 8 ∷ []))
+    -- cross trade: shares, stock, price, match number, cross
+    ∷ row 'Q' 40 (num 8 ∷ text 8 ∷ num 4 ∷ num 8 ∷ code cross ∷ [])
+    -- stock directory: stock, category, status, round lot, lots only, class, subtype, authenticity, short sale, IPO, LULD tier, ETP,
+    -- leverage, inverse
+    ∷ row 'R' 39
+    (text 8 ∷ code category ∷ code status ∷ num 4 ∷ code yesNo ∷ code class ∷ subtype ∷ code authenticity ∷ code flag ∷ code flag
+    ∷ code tier ∷ etp ∷ num 4 ∷ code yesNo ∷ [])
+    -- system event: event
+    ∷ row 'S' 12 (code event ∷ [])
+    -- replace order: old reference, new reference, shares, price
+    ∷ row 'U' 35 (num 8 ∷ num 8 ∷ num 4 ∷ num 4 ∷ [])
+    -- MWCB decline levels: three levels
+    ∷ row 'V' 35 (num 8 ∷ num 8 ∷ num 8 ∷ [])
+    -- MWCB breach: level
+    ∷ row 'W' 12 (code level ∷ [])
+    -- order cancelled: reference, cancelled
+    ∷ row 'X' 23 (num 8 ∷ num 4 ∷ [])
+    -- Reg SHO restriction: stock, action
+    ∷ row 'Y' 20 (text 8 ∷ code action ∷ [])
+    ∷ []
+
+-- the row of a tag, if there is one
+pub data Found : Type 0 where
+  found : Row → Found
+  none : Found
+
+abbrev pub find : List Row → ℕ → Found
+find [] t = none
+find (r ∷ rs) t = cond (eqb (r .tag) t) (found r) (find rs t)
+
+-- a tag's size, zero where no tag is
+abbrev pub sizeIn : Found → ℕ
+sizeIn (found r) = r .size
+sizeIn none = 0
+
+unfoldable pub sizeOf : ℕ → ℕ
+sizeOf t = sizeIn (find rows t)
+
+-- a body under its tag's row, after the values vs: an unknown tag is refusal 1 at place 2
+abbrev pub under : Found → List ℕ → ℕ → List ℕ → Answer
+under (found r) s at vs = read (r .body) s at vs accepted
+under none s at vs = refuses 1 2
+
+-- the 13 bytes before a body: length, tag, locate, tracking number, timestamp
+abbrev pub header : List Kind
+header = num 2 ∷ num 1 ∷ num 2 ∷ num 2 ∷ time ∷ []
+
+-- what follows the header's values h: the tag is judged, then the body's fields. The length is ignored. The values are tag, locate, tracking
+-- number and timestamp, then the tag once more, which tells apart the bodies of like fields (D and B), then the body's
+abbrev pub message : List ℕ → List ℕ → ℕ → Answer
+message s h at = under (find rows (getD h 1 0)) s at (drop 1 h ++ (getD h 1 0 ∷ []))
+
+-- what reading a window answers
+unfoldable pub window : List ℕ → Answer
+window s = read header s 0 [] (message s)
+
+-- the parts of that answer which the code reads by functions of their own: the header without its length, and the body of a tag
+unfoldable pub headerOf : List ℕ → Answer
+headerOf s = read header s 0 [] (λ h. accepted (drop 1 h))
+
+unfoldable pub bodyOf : ℕ → List ℕ → Answer
+bodyOf t s = under (find rows t) s 13 (t ∷ [])
