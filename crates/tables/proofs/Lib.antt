@@ -1,0 +1,3 @@
+pub mod Table
+mod Bits
+pub mod Codes
