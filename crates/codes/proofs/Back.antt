@@ -1,0 +1,182 @@
+-- A name is determined by its byte: each byte has its name back.
+-- Assumes nothing.
+use mathlib.Core.Path.{_≡_, refl}
+use mathlib.Core.Bool.{Bool, true, false}
+use lib.Dec.{eqb}
+use Rattle.format.specs.Ascii.{'Y', 'P'}
+use Rattle.codes.specs.declared.EventCode.{EventCode}
+use Rattle.codes.specs.declared.EventCode.the-variants as EventCode·
+use Rattle.codes.specs.declared.MarketCategory.{MarketCategory}
+use Rattle.codes.specs.declared.MarketCategory.the-variants as MarketCategory·
+use Rattle.codes.specs.declared.FinancialStatus.{FinancialStatus}
+use Rattle.codes.specs.declared.FinancialStatus.the-variants as FinancialStatus·
+use Rattle.codes.specs.declared.IssueClassification.{IssueClassification}
+use Rattle.codes.specs.declared.IssueClassification.the-variants as IssueClassification·
+use Rattle.codes.specs.declared.LuldRefPriceTier.{LuldRefPriceTier}
+use Rattle.codes.specs.declared.LuldRefPriceTier.the-variants as LuldRefPriceTier·
+use Rattle.codes.specs.declared.MarketMakerMode.{MarketMakerMode}
+use Rattle.codes.specs.declared.MarketMakerMode.the-variants as MarketMakerMode·
+use Rattle.codes.specs.declared.MarketParticipantState.{MarketParticipantState}
+use Rattle.codes.specs.declared.MarketParticipantState.the-variants as MarketParticipantState·
+use Rattle.codes.specs.declared.RegShoAction.{RegShoAction}
+use Rattle.codes.specs.declared.RegShoAction.the-variants as RegShoAction·
+use Rattle.codes.specs.declared.TradingState.{TradingState}
+use Rattle.codes.specs.declared.TradingState.the-variants as TradingState·
+use Rattle.codes.specs.declared.Side.{Side}
+use Rattle.codes.specs.declared.Side.the-variants as Side·
+use Rattle.codes.specs.declared.ImbalanceDirection.{ImbalanceDirection}
+use Rattle.codes.specs.declared.ImbalanceDirection.the-variants as ImbalanceDirection·
+use Rattle.codes.specs.declared.CrossType.{CrossType}
+use Rattle.codes.specs.declared.CrossType.the-variants as CrossType·
+use Rattle.codes.specs.declared.IpoReleaseQualifier.{IpoReleaseQualifier}
+use Rattle.codes.specs.declared.IpoReleaseQualifier.the-variants as IpoReleaseQualifier·
+use Rattle.codes.specs.declared.LevelBreached.{LevelBreached}
+use Rattle.codes.specs.declared.LevelBreached.the-variants as LevelBreached·
+use Rattle.codes.specs.declared.InterestFlag.{InterestFlag}
+use Rattle.codes.specs.declared.InterestFlag.the-variants as InterestFlag·
+use Rattle.codes.specs.declared.Flag.{Flag}
+use Rattle.codes.specs.declared.Flag.the-variants as Flag·
+use Rattle.codes.specs.Names.{eventByte, eventFrom, categoryByte, categoryFrom, statusByte, statusFrom, classByte, classFrom, tierByte, tierFrom, makerModeByte, makerModeFrom, participantStateByte, participantStateFrom, actionByte, actionFrom, tradingStateByte, tradingStateFrom, sideByte, sideFrom, directionByte, directionFrom, crossByte, crossFrom, qualifierByte, qualifierFrom, levelByte, levelFrom, interestByte, interestFrom, flagByte, flagFrom, yesNoByte, authenticityByte}
+
+pub event-back : (x : EventCode) → eventFrom (eventByte x) ≡ x
+unfolding eventFrom eventByte
+event-back EventCode·.StartOfMessages = refl
+event-back EventCode·.StartOfSystemHours = refl
+event-back EventCode·.StartOfMarketHours = refl
+event-back EventCode·.EndOfMarketHours = refl
+event-back EventCode·.EndOfSystemHours = refl
+event-back EventCode·.EndOfMessages = refl
+
+pub category-back : (x : MarketCategory) → categoryFrom (categoryByte x) ≡ x
+unfolding categoryFrom categoryByte
+category-back MarketCategory·.NasdaqGlobalSelect = refl
+category-back MarketCategory·.NasdaqGlobalMarket = refl
+category-back MarketCategory·.NasdaqCapitalMarket = refl
+category-back MarketCategory·.Nyse = refl
+category-back MarketCategory·.NyseMkt = refl
+category-back MarketCategory·.NyseArca = refl
+category-back MarketCategory·.BatsZExchange = refl
+category-back MarketCategory·.InvestorsExchange = refl
+category-back MarketCategory·.Unavailable = refl
+
+pub status-back : (x : FinancialStatus) → statusFrom (statusByte x) ≡ x
+unfolding statusFrom statusByte
+status-back FinancialStatus·.Normal = refl
+status-back FinancialStatus·.Deficient = refl
+status-back FinancialStatus·.Delinquent = refl
+status-back FinancialStatus·.Bankrupt = refl
+status-back FinancialStatus·.Suspended = refl
+status-back FinancialStatus·.DeficientBankrupt = refl
+status-back FinancialStatus·.DeficientDelinquent = refl
+status-back FinancialStatus·.DelinquentBankrupt = refl
+status-back FinancialStatus·.DeficientDelinquentBankrupt = refl
+status-back FinancialStatus·.EtpSuspended = refl
+status-back FinancialStatus·.Unavailable = refl
+
+pub class-back : (x : IssueClassification) → classFrom (classByte x) ≡ x
+unfolding classFrom classByte
+class-back IssueClassification·.AmericanDepositaryShare = refl
+class-back IssueClassification·.Bond = refl
+class-back IssueClassification·.CommonStock = refl
+class-back IssueClassification·.DepositoryReceipt = refl
+class-back IssueClassification·.A144 = refl
+class-back IssueClassification·.LimitedPartnership = refl
+class-back IssueClassification·.Notes = refl
+class-back IssueClassification·.OrdinaryShare = refl
+class-back IssueClassification·.PreferredStock = refl
+class-back IssueClassification·.OtherSecurities = refl
+class-back IssueClassification·.Right = refl
+class-back IssueClassification·.SharesOfBeneficialInterest = refl
+class-back IssueClassification·.ConvertibleDebenture = refl
+class-back IssueClassification·.Unit = refl
+class-back IssueClassification·.UnitsPerBenifInt = refl
+class-back IssueClassification·.Warrant = refl
+
+pub tier-back : (x : LuldRefPriceTier) → tierFrom (tierByte x) ≡ x
+unfolding tierFrom tierByte
+tier-back LuldRefPriceTier·.Tier1 = refl
+tier-back LuldRefPriceTier·.Tier2 = refl
+tier-back LuldRefPriceTier·.Na = refl
+
+pub makerMode-back : (x : MarketMakerMode) → makerModeFrom (makerModeByte x) ≡ x
+unfolding makerModeFrom makerModeByte
+makerMode-back MarketMakerMode·.Normal = refl
+makerMode-back MarketMakerMode·.Passive = refl
+makerMode-back MarketMakerMode·.Syndicate = refl
+makerMode-back MarketMakerMode·.Presyndicate = refl
+makerMode-back MarketMakerMode·.Penalty = refl
+
+pub participantState-back : (x : MarketParticipantState) → participantStateFrom (participantStateByte x) ≡ x
+unfolding participantStateFrom participantStateByte
+participantState-back MarketParticipantState·.Active = refl
+participantState-back MarketParticipantState·.Excused = refl
+participantState-back MarketParticipantState·.Withdrawn = refl
+participantState-back MarketParticipantState·.Suspended = refl
+participantState-back MarketParticipantState·.Deleted = refl
+
+pub action-back : (x : RegShoAction) → actionFrom (actionByte x) ≡ x
+unfolding actionFrom actionByte
+action-back RegShoAction·.None = refl
+action-back RegShoAction·.Intraday = refl
+action-back RegShoAction·.Extant = refl
+
+pub tradingState-back : (x : TradingState) → tradingStateFrom (tradingStateByte x) ≡ x
+unfolding tradingStateFrom tradingStateByte
+tradingState-back TradingState·.Halted = refl
+tradingState-back TradingState·.Paused = refl
+tradingState-back TradingState·.QuotationOnly = refl
+tradingState-back TradingState·.Trading = refl
+
+pub side-back : (x : Side) → sideFrom (sideByte x) ≡ x
+unfolding sideFrom sideByte
+side-back Side·.Buy = refl
+side-back Side·.Sell = refl
+
+pub direction-back : (x : ImbalanceDirection) → directionFrom (directionByte x) ≡ x
+unfolding directionFrom directionByte
+direction-back ImbalanceDirection·.Buy = refl
+direction-back ImbalanceDirection·.Sell = refl
+direction-back ImbalanceDirection·.NoImbalance = refl
+direction-back ImbalanceDirection·.InsufficientOrders = refl
+
+pub cross-back : (x : CrossType) → crossFrom (crossByte x) ≡ x
+unfolding crossFrom crossByte
+cross-back CrossType·.Opening = refl
+cross-back CrossType·.Closing = refl
+cross-back CrossType·.IpoOrHalted = refl
+cross-back CrossType·.Intraday = refl
+cross-back CrossType·.ExtendedTradingClose = refl
+
+pub qualifier-back : (x : IpoReleaseQualifier) → qualifierFrom (qualifierByte x) ≡ x
+unfolding qualifierFrom qualifierByte
+qualifier-back IpoReleaseQualifier·.Anticipated = refl
+qualifier-back IpoReleaseQualifier·.Cancelled = refl
+
+pub level-back : (x : LevelBreached) → levelFrom (levelByte x) ≡ x
+unfolding levelFrom levelByte
+level-back LevelBreached·.L1 = refl
+level-back LevelBreached·.L2 = refl
+level-back LevelBreached·.L3 = refl
+
+pub interest-back : (x : InterestFlag) → interestFrom (interestByte x) ≡ x
+unfolding interestFrom interestByte
+interest-back InterestFlag·.RPIAvailableBuySide = refl
+interest-back InterestFlag·.RPIAvailableSellSide = refl
+interest-back InterestFlag·.RPIAvailableBothSides = refl
+interest-back InterestFlag·.RPINoneAvailable = refl
+
+pub flag-back : (x : Flag) → flagFrom (flagByte x) ≡ x
+unfolding flagFrom flagByte
+flag-back Flag·.Yes = refl
+flag-back Flag·.No = refl
+flag-back Flag·.Absent = refl
+
+pub yesNo-back : (x : Bool) → eqb (yesNoByte x) 'Y' ≡ x
+unfolding yesNoByte
+yesNo-back true = refl
+yesNo-back false = refl
+
+pub authenticity-back : (x : Bool) → eqb (authenticityByte x) 'P' ≡ x
+unfolding authenticityByte
+authenticity-back true = refl
+authenticity-back false = refl
