@@ -36,7 +36,9 @@ use Rattle.codes.specs.declared.InterestFlag.{InterestFlag}
 use Rattle.codes.specs.declared.InterestFlag.the-variants as InterestFlag·
 use Rattle.codes.specs.declared.Flag.{Flag}
 use Rattle.codes.specs.declared.Flag.the-variants as Flag·
-use Rattle.codes.specs.Names.{eventByte, eventFrom, categoryByte, categoryFrom, statusByte, statusFrom, classByte, classFrom, tierByte, tierFrom, makerModeByte, makerModeFrom, participantStateByte, participantStateFrom, actionByte, actionFrom, tradingStateByte, tradingStateFrom, sideByte, sideFrom, directionByte, directionFrom, crossByte, crossFrom, qualifierByte, qualifierFrom, levelByte, levelFrom, interestByte, interestFrom, flagByte, flagFrom, yesNoByte, authenticityByte}
+use Rattle.codes.specs.declared.IssueSubType.{IssueSubType}
+use Rattle.codes.specs.declared.IssueSubType.the-variants as IssueSubType·
+use Rattle.codes.specs.Names.{subtypeByte, subtypeFrom, eventByte, eventFrom, categoryByte, categoryFrom, statusByte, statusFrom, classByte, classFrom, tierByte, tierFrom, makerModeByte, makerModeFrom, participantStateByte, participantStateFrom, actionByte, actionFrom, tradingStateByte, tradingStateFrom, sideByte, sideFrom, directionByte, directionFrom, crossByte, crossFrom, qualifierByte, qualifierFrom, levelByte, levelFrom, interestByte, interestFrom, flagByte, flagFrom, yesNoByte, authenticityByte}
 
 pub event-back : (x : EventCode) → eventFrom (eventByte x) ≡ x
 unfolding eventFrom eventByte
@@ -180,3 +182,64 @@ pub authenticity-back : (x : Bool) → eqb (authenticityByte x) 'P' ≡ x
 unfolding authenticityByte
 authenticity-back true = refl
 authenticity-back false = refl
+
+pub subtype-back : (x : IssueSubType) → subtypeFrom (subtypeByte x) ≡ x
+unfolding subtypeFrom subtypeByte
+subtype-back IssueSubType·.PreferredTrustSecurities = refl
+subtype-back IssueSubType·.AlphaIndexETNs = refl
+subtype-back IssueSubType·.IndexBasedDerivative = refl
+subtype-back IssueSubType·.CommonShares = refl
+subtype-back IssueSubType·.CommodityBasedTrustShares = refl
+subtype-back IssueSubType·.CommodityFuturesTrustShares = refl
+subtype-back IssueSubType·.CommodityLinkedSecurities = refl
+subtype-back IssueSubType·.CommodityIndexTrustShares = refl
+subtype-back IssueSubType·.CollateralizedMortgageObligation = refl
+subtype-back IssueSubType·.CurrencyTrustShares = refl
+subtype-back IssueSubType·.CommodityCurrencyLinkedSecurities = refl
+subtype-back IssueSubType·.CurrencyWarrants = refl
+subtype-back IssueSubType·.GlobalDepositaryShares = refl
+subtype-back IssueSubType·.ETFPortfolioDepositaryReceipt = refl
+subtype-back IssueSubType·.EquityGoldShares = refl
+subtype-back IssueSubType·.ETNEquityIndexLinkedSecurities = refl
+subtype-back IssueSubType·.ExchangeTradedManagedFunds = refl
+subtype-back IssueSubType·.ExchangeTradedNotes = refl
+subtype-back IssueSubType·.EquityUnits = refl
+subtype-back IssueSubType·.Holdrs = refl
+subtype-back IssueSubType·.ETNFixedIncomeLinkedSecurities = refl
+subtype-back IssueSubType·.ETNFuturesLinkedSecurities = refl
+subtype-back IssueSubType·.GlobalShares = refl
+subtype-back IssueSubType·.ETFIndexFundShares = refl
+subtype-back IssueSubType·.InterestRate = refl
+subtype-back IssueSubType·.IndexWarrant = refl
+subtype-back IssueSubType·.IndexLinkedExchangeableNotes = refl
+subtype-back IssueSubType·.CorporateBackedTrustSecurity = refl
+subtype-back IssueSubType·.ContingentLitigationRight = refl
+subtype-back IssueSubType·.Llc = refl
+subtype-back IssueSubType·.EquityBasedDerivative = refl
+subtype-back IssueSubType·.ManagedFundShares = refl
+subtype-back IssueSubType·.ETNMultiFactorIndexLinkedSecurities = refl
+subtype-back IssueSubType·.ManagedTrustSecurities = refl
+subtype-back IssueSubType·.NYRegistryShares = refl
+subtype-back IssueSubType·.OpenEndedMutualFund = refl
+subtype-back IssueSubType·.PrivatelyHeldSecurity = refl
+subtype-back IssueSubType·.PoisonPill = refl
+subtype-back IssueSubType·.PartnershipUnits = refl
+subtype-back IssueSubType·.ClosedEndFunds = refl
+subtype-back IssueSubType·.RegS = refl
+subtype-back IssueSubType·.CommodityRedeemableCommodityLinkedSecurities = refl
+subtype-back IssueSubType·.ETNRedeemableFuturesLinkedSecurities = refl
+subtype-back IssueSubType·.REIT = refl
+subtype-back IssueSubType·.CommodityRedeemableCurrencyLinkedSecurities = refl
+subtype-back IssueSubType·.Seed = refl
+subtype-back IssueSubType·.SpotRateClosing = refl
+subtype-back IssueSubType·.SpotRateIntraday = refl
+subtype-back IssueSubType·.TrackingStock = refl
+subtype-back IssueSubType·.TrustCertificates = refl
+subtype-back IssueSubType·.TrustUnits = refl
+subtype-back IssueSubType·.Portal = refl
+subtype-back IssueSubType·.ContingentValueRight = refl
+subtype-back IssueSubType·.TrustIssuedReceipts = refl
+subtype-back IssueSubType·.WorldCurrencyOption = refl
+subtype-back IssueSubType·.Trust = refl
+subtype-back IssueSubType·.Other = refl
+subtype-back IssueSubType·.NotApplicable = refl

@@ -356,6 +356,69 @@ subtypeByte IssueSubType·.Trust = pair 'X' '␣'
 subtypeByte IssueSubType·.Other = pair 'Y' '␣'
 subtypeByte IssueSubType·.NotApplicable = pair 'Z' '␣'
 
+unfoldable pub subtypeFrom : ℕ → IssueSubType
+subtypeFrom v =
+    nameOf subtypeByte
+    (IssueSubType·.PreferredTrustSecurities
+    ∷ IssueSubType·.AlphaIndexETNs
+    ∷ IssueSubType·.IndexBasedDerivative
+    ∷ IssueSubType·.CommonShares
+    ∷ IssueSubType·.CommodityBasedTrustShares
+    ∷ IssueSubType·.CommodityFuturesTrustShares
+    ∷ IssueSubType·.CommodityLinkedSecurities
+    ∷ IssueSubType·.CommodityIndexTrustShares
+    ∷ IssueSubType·.CollateralizedMortgageObligation
+    ∷ IssueSubType·.CurrencyTrustShares
+    ∷ IssueSubType·.CommodityCurrencyLinkedSecurities
+    ∷ IssueSubType·.CurrencyWarrants
+    ∷ IssueSubType·.GlobalDepositaryShares
+    ∷ IssueSubType·.ETFPortfolioDepositaryReceipt
+    ∷ IssueSubType·.EquityGoldShares
+    ∷ IssueSubType·.ETNEquityIndexLinkedSecurities
+    ∷ IssueSubType·.ExchangeTradedManagedFunds
+    ∷ IssueSubType·.ExchangeTradedNotes
+    ∷ IssueSubType·.EquityUnits
+    ∷ IssueSubType·.Holdrs
+    ∷ IssueSubType·.ETNFixedIncomeLinkedSecurities
+    ∷ IssueSubType·.ETNFuturesLinkedSecurities
+    ∷ IssueSubType·.GlobalShares
+    ∷ IssueSubType·.ETFIndexFundShares
+    ∷ IssueSubType·.InterestRate
+    ∷ IssueSubType·.IndexWarrant
+    ∷ IssueSubType·.IndexLinkedExchangeableNotes
+    ∷ IssueSubType·.CorporateBackedTrustSecurity
+    ∷ IssueSubType·.ContingentLitigationRight
+    ∷ IssueSubType·.Llc
+    ∷ IssueSubType·.EquityBasedDerivative
+    ∷ IssueSubType·.ManagedFundShares
+    ∷ IssueSubType·.ETNMultiFactorIndexLinkedSecurities
+    ∷ IssueSubType·.ManagedTrustSecurities
+    ∷ IssueSubType·.NYRegistryShares
+    ∷ IssueSubType·.OpenEndedMutualFund
+    ∷ IssueSubType·.PrivatelyHeldSecurity
+    ∷ IssueSubType·.PoisonPill
+    ∷ IssueSubType·.PartnershipUnits
+    ∷ IssueSubType·.ClosedEndFunds
+    ∷ IssueSubType·.RegS
+    ∷ IssueSubType·.CommodityRedeemableCommodityLinkedSecurities
+    ∷ IssueSubType·.ETNRedeemableFuturesLinkedSecurities
+    ∷ IssueSubType·.REIT
+    ∷ IssueSubType·.CommodityRedeemableCurrencyLinkedSecurities
+    ∷ IssueSubType·.Seed
+    ∷ IssueSubType·.SpotRateClosing
+    ∷ IssueSubType·.SpotRateIntraday
+    ∷ IssueSubType·.TrackingStock
+    ∷ IssueSubType·.TrustCertificates
+    ∷ IssueSubType·.TrustUnits
+    ∷ IssueSubType·.Portal
+    ∷ IssueSubType·.ContingentValueRight
+    ∷ IssueSubType·.TrustIssuedReceipts
+    ∷ IssueSubType·.WorldCurrencyOption
+    ∷ IssueSubType·.Trust
+    ∷ IssueSubType·.Other
+    ∷ [])
+    IssueSubType·.NotApplicable v
+
 -- what a subtype's answer means
 abbrev pub subtypeM : SubtypeRead → Got
 subtypeM (GotSubtype t) = got (subtypeByte t ∷ [])

@@ -11,7 +11,7 @@ use lib.ListN.{length, getD}
 use lib.Seq.{drop-cons}
 use borrow.Author.Tests.{le-leb, lt-leb, leb-true}
 use Rattle.format.specs.Utf8.{wellFormed}
-use Rattle.format.specs.Layout.{Kind, num, text, width, be, part, Got, got, short, refused, Verdict, judge, placed, field}
+use Rattle.format.specs.Layout.{Kind, num, text, skip, width, be, part, Got, got, short, refused, Verdict, judge, placed, field}
 use Rattle.format.specs.Meaning.{faultM}
 use Rattle.format.specs.declared.Fault.{Fault}
 use Rattle.format.specs.declared.Fault.the-variants.{Short, Refused}
@@ -63,3 +63,8 @@ unfolding field judge
 one-short k s at e w q =
     let h = no-byte (leb (at + 1) (length s)) (be (part s at 1) ∷ []) e q in
     rw w (rw (h .0, h .1))
+
+-- a byte that is not kept
+pub skip-got : (s : List ℕ) (at : ℕ) {b : ℕ} → field (num 1) s at ≡ got (b ∷ []) → field skip s at ≡ got []
+unfolding judge
+skip-got s at e = one-byte skip s at refl e

@@ -60,9 +60,12 @@ cut (k ∷ ks) s at acc go p l h =
     (λ g. rw (← field-short k s at g))
     (le-or-lt (at + width k) (length s))
 
+pub header-cut : (s : List ℕ) (go : List ℕ → ℕ → Answer) → length s < 13 → read header s 0 [] go ≡ incomplete
+header-cut s go h = cut header s 0 [] go tt (omega arith) h
+
 pub header-short : (s : List ℕ) → length s < 13 → incomplete ≡ headerOf s
 unfolding headerOf
-header-short s h = sym (cut header s 0 [] (λ h. accepted (drop 1 h)) tt (omega arith) h)
+header-short s h = sym (header-cut s (λ h. accepted (drop 1 h)) h)
 
 field-time : (s : List ℕ) (at : ℕ) → at + 6 ≤ length s → field time s at ≡ got (be (part s at 6) ∷ [])
 unfolding judge

@@ -3,3 +3,4 @@ pub mod Text
 pub mod Fields
 pub mod Runs
 pub mod Heads
+pub mod Windows

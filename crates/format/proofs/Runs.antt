@@ -5,8 +5,9 @@ use mathlib.Core.Path.{_≡_, refl, sym, ap, _∙_}
 use mathlib.Core.List.{List, [], _∷_, _++_, append-assoc, append-nil}
 use Prim.Native.Nat.{ℕ, _+_}
 use native.Mathlib.Nat.{add-zero, add-assoc}
+use lib.ListN.{take, drop}
 use Rattle.format.specs.Layout.{Kind, width, widths, Got, got, field, Answer, accepted, step, read}
-use Rattle.format.specs.Rows.{Row, rows, found, find, under, bodyOf}
+use Rattle.format.specs.Rows.{Row, rows, Found, found, none, find, under, bodyOf}
 use Rattle.format.specs.Meaning.{faultM, stopM}
 use Rattle.format.specs.declared.Fault.{Fault}
 use Rattle.format.specs.declared.Fault.the-variants.{Short, Refused}
@@ -51,6 +52,14 @@ step-fault (Refused n p) go = refl
 pub stops : {s : List ℕ} {row : List Kind} {from : ℕ} {k : Kind} {ks : List Kind} {at : ℕ} (e : Fault) → Upto s row from (k ∷ ks) at
     → field k s at ≡ faultM e → (acc : List ℕ) (go : List ℕ → ℕ → Answer) → read row s from acc go ≡ stopM e
 stops e u q acc go = passed u acc go .1 ∙ rw q (step-fault e _)
+
+-- the fields of a tag's body, and that the first n of them have values
+abbrev fieldsIn : Found → List Kind
+fieldsIn (found r) = r .body
+fieldsIn none = []
+
+abbrev pub Past : ℕ → List ℕ → ℕ → Type 0
+Past t s n = let ks : List Kind = fieldsIn (find rows t) in Upto s ks 13 (drop n ks) (13 + widths (take n ks))
 
 -- the two answers of a body, under its tag's row
 pub body-stops : (t : ℕ) (r : Row) (e : Fault) {s : List ℕ} {k : Kind} {ks : List Kind} {at : ℕ} → find rows t ≡ found r

@@ -1,0 +1,75 @@
+-- A window is its header, then its body: what the code's two parts answer, put together, is the window's answer.
+-- Assumes nothing.
+use mathlib.Core.Path.{_≡_, refl, sym, ap, _∙_}
+use mathlib.Core.List.{List, [], _∷_, _++_, append-assoc}
+use mathlib.Core.Logic.{⊎-elim}
+use Prim.Native.Nat.{ℕ, _+_, _<_, _≤_}
+use native.Mathlib.Omega.{arith}
+use lib.ListN.{length, getD, drop}
+use Rattle.format.specs.Layout.{Kind, width, be, part, Got, got, short, refused, field, Answer, accepted, incomplete, refuses, step, read}
+use Rattle.format.specs.Rows.{Row, rows, Found, found, none, find, under, message, header, headerOf, bodyOf, window}
+use Rattle.format.specs.Meaning.{stopM}
+use Rattle.format.specs.declared.Fault.{Fault}
+use Rattle.format.specs.declared.Fault.the-variants.{Short, Refused}
+use Rattle.format.proofs.Runs.{reads}
+use Rattle.format.proofs.Heads.{le-or-lt, header-cut, header-reads, header-short}
+
+-- values in front of an answer
+abbrev pub pre : List ℕ → Answer → Answer
+pre acc (accepted vs n) = accepted (acc ++ vs) n
+pre acc incomplete = incomplete
+pre acc (refuses n p) = refuses n p
+
+read-pre : (ks : List Kind) (s : List ℕ) (at : ℕ) (acc vs : List ℕ) → read ks s at (acc ++ vs) accepted ≡ pre acc (read ks s at vs accepted)
+read-pre [] s at acc vs = refl
+read-pre (k ∷ ks) s at acc vs = go (field k s at) (λ v. read-pre ks s (at + width k) acc (vs ++ v))
+  where
+    go : (g : Got) → ((v : List ℕ) → read ks s (at + width k) (acc ++ (vs ++ v)) accepted ≡ pre acc (read ks s (at + width k) (vs ++ v) accepted))
+        → step g (λ v. read ks s (at + width k) ((acc ++ vs) ++ v) accepted) ≡ pre acc (step g (λ v. read ks s (at + width k) (vs ++ v) accepted))
+    go (got v) rest = rw (append-assoc acc vs v) (rest v)
+    go short rest = refl
+    go (refused n p) rest = refl
+
+under-pre : (f : Found) (s : List ℕ) (at : ℕ) (acc vs : List ℕ) → under f s at (acc ++ vs) ≡ pre acc (under f s at vs)
+under-pre (found r) s at acc vs = read-pre (r .body) s at acc vs
+under-pre none s at acc vs = refl
+
+-- a header that is all there: its values from the tag on, and the window's answer after them
+header-there : (s : List ℕ) → 13 ≤ length s → headerOf s ≡ accepted (getD s 2 0 ∷ be (part s 3 2) ∷ be (part s 5 2) ∷ be (part s 7 6) ∷ []) 13
+unfolding headerOf
+header-there s h = reads (header-reads s h) [] (λ h. accepted (drop 1 h))
+
+window-there : (s : List ℕ) → 13 ≤ length s
+    → window s ≡ pre (getD s 2 0 ∷ be (part s 3 2) ∷ be (part s 5 2) ∷ be (part s 7 6) ∷ []) (bodyOf (getD s 2 0) s)
+unfolding window bodyOf
+window-there s h =
+    reads (header-reads s h) [] (message s)
+    ∙ under-pre (find rows (getD s 2 0)) s 13 (getD s 2 0 ∷ be (part s 3 2) ∷ be (part s 5 2) ∷ be (part s 7 6) ∷ []) (getD s 2 0 ∷ [])
+
+window-cut : (s : List ℕ) → length s < 13 → window s ≡ incomplete
+unfolding window
+window-cut s h = header-cut s (message s) h
+
+pub window-short : (s : List ℕ) → incomplete ≡ headerOf s → incomplete ≡ window s
+window-short s e =
+    ⊎-elim
+    (λ h. let z : _≡_ {A = ℕ} 0 1 = cc (header-there s h) in absurd (omega arith))
+    (λ h. sym (window-cut s h))
+    (le-or-lt 13 (length s))
+
+pub window-body : (s : List ℕ) {t l n ts : ℕ} → accepted (t ∷ l ∷ n ∷ ts ∷ []) 13 ≡ headerOf s → window s ≡ pre (t ∷ l ∷ n ∷ ts ∷ []) (bodyOf t s)
+window-body s {t} {l} {n} {ts} e =
+    ⊎-elim
+    (λ h.
+    let a : t ≡ getD s 2 0 = cc (header-there s h) in
+    let b : l ≡ be (part s 3 2) = cc (header-there s h) in
+    let c : n ≡ be (part s 5 2) = cc (header-there s h) in
+    let d : ts ≡ be (part s 7 6) = cc (header-there s h) in
+    rw (a, b, c, d) (window-there s h))
+    (λ h. let z : _≡_ {A = ℕ} 0 1 = cc (header-short s h) in absurd (omega arith))
+    (le-or-lt 13 (length s))
+
+-- an answer that stops stays what it is
+pub pre-stop : (acc : List ℕ) (e : Fault) → pre acc (stopM e) ≡ stopM e
+pre-stop acc Short = refl
+pre-stop acc (Refused n p) = refl

@@ -1,0 +1,93 @@
+-- `orders::parse_order_executed` meets its contract.
+-- Assumes nothing.
+use denote.Ref.{now}
+use mathlib.Core.Path.{refl}
+use Rattle.format.specs.Ascii.{'E'}
+use Rattle.format.specs.Meaning.{fault32, fault64, num32M, num64M}
+use Rattle.format.proofs.Runs.{value, fault, body-stops, body-reads, end, _⨾_, start, _▹_, Past}
+use borrow.Author.Needs.{needs}
+use Rattle.orders.proofs.parse_order_executed.Statement.{statement}
+use Rattle.orders.proofs.parse_order_executed.Tie as tie
+
+past-1 : (c : tie.After-known-told) → Past 'E' (now (c .before .before .before .before .before .args .s)) 1
+past-1 c = start ▹ value num64M (c .before .before .before .be-u64 .ensures) (c .before .f1 .given .1)
+
+past-2 : (c : tie.After-known-told2) → Past 'E' (now (c .before .before .before .before .before .before .before .before .before .args .s)) 2
+past-2 c = past-1 (c .before .before .before .before) ▹ value num32M (c .before .before .before .be-u32 .ensures) (c .before .f2 .given .1)
+
+be-u64-requires : tie.Need-be-u64-requires
+be-u64-requires c κs = search needs
+
+enum-known-f1 : tie.Need-enum-known-f1
+enum-known-f1 c = search needs
+
+enum-told : tie.Need-enum-told
+enum-told c = search needs
+
+no-u64-requires : tie.Need-no-u64-requires
+no-u64-requires c κs = search needs
+
+returns : tie.Need-returns
+returns c =
+    body-stops 'E' _ (c .no-u64 .result) refl start (fault num64M fault64 (c .before .before .before .be-u64 .ensures) (c .before .enum-told .given .1) refl (c .no-u64 .ensures))
+
+be-u32-requires : tie.Need-be-u32-requires
+be-u32-requires c κs = search needs
+
+enum-known-f2 : tie.Need-enum-known-f2
+enum-known-f2 c = search needs
+
+enum-told-2 : tie.Need-enum-told-2
+enum-told-2 c = search needs
+
+no-u32-requires : tie.Need-no-u32-requires
+no-u32-requires c κs = search needs
+
+returns-2 : tie.Need-returns-2
+returns-2 c =
+    body-stops 'E' _ (c .no-u32 .result) refl (past-1 (c .before .before .before .before)) (fault num32M fault32 (c .before .before .before .be-u32 .ensures) (c .before .enum-told2 .given .1) refl (c .no-u32 .ensures))
+
+be-u64-requires-2 : tie.Need-be-u64-requires-2
+be-u64-requires-2 c κs = search needs
+
+enum-known-f3 : tie.Need-enum-known-f3
+enum-known-f3 c = search needs
+
+enum-told-3 : tie.Need-enum-told-3
+enum-told-3 c = search needs
+
+no-u64-requires-2 : tie.Need-no-u64-requires-2
+no-u64-requires-2 c κs = search needs
+
+returns-3 : tie.Need-returns-3
+returns-3 c =
+    body-stops 'E' _ (c .no-u642 .result) refl (past-2 (c .before .before .before .before)) (fault num64M fault64 (c .before .before .before .be-u642 .ensures) (c .before .enum-told3 .given .1) refl (c .no-u642 .ensures))
+
+returns-4 : tie.Need-returns-4
+returns-4 c =
+    body-reads 'E' _ refl
+    (value num64M (c .before .before .before .before .before .before .before .before .before .before .before .be-u64 .ensures) (c .before .before .before .before .before .before .before .before .before .f1 .given .1)
+    ⨾ value num32M (c .before .before .before .before .before .before .before .be-u32 .ensures) (c .before .before .before .before .before .f2 .given .1)
+    ⨾ value num64M (c .before .before .before .be-u642 .ensures) (c .before .f3 .given .1)
+    ⨾ end)
+
+pub parse-order-executed-spec : {M : Type 1} → statement M
+parse-order-executed-spec =
+    tie.close
+    (tie.spec
+    be-u64-requires
+    enum-known-f1
+    enum-told
+    no-u64-requires
+    returns
+    be-u32-requires
+    enum-known-f2
+    enum-told-2
+    no-u32-requires
+    returns-2
+    be-u64-requires-2
+    enum-known-f3
+    enum-told-3
+    no-u64-requires-2
+    returns-3
+    returns-4)

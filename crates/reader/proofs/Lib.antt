@@ -1,0 +1,3 @@
+pub mod Back
+mod Tags
+mod Parts

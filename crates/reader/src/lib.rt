@@ -1,0 +1,72 @@
+// parse_message: the one judgement of a message. The header first, then the body that the tag names.
+ghost use mathlib.Core.Path.{_≡_};
+ghost use Rattle.format.specs.Rows.{bodyOf, window};
+ghost use Rattle.records.specs.Values.{bodyM};
+ghost use Rattle.reader.specs.Window.{windowM};
+use format::Fault;
+use format::HeaderRead;
+use records::BodyRead;
+use records::Message;
+
+// What reading a window answers: a message and the bytes that it consumed; not all of it is there; refused, with number and place.
+pub enum Window {
+    Message(Message, usize),
+    Incomplete,
+    Refused(u8, usize),
+}
+
+// A function that is called from one place is compiled into its caller: so each body has one arm here, and A and F share theirs.
+fn parse_body(s: &[u8], tag: u8) -> BodyRead
+    ensures { λ r. ⌜ bodyM r ≡ bodyOf tag (now (s .entry)) ⌝ }
+{
+    match tag {
+        b'A' | b'F' => orders::parse_add_order(s, tag == b'F'),
+        b'B' => orders::parse_broken_trade(s),
+        b'D' => orders::parse_delete_order(s),
+        b'C' => orders::parse_order_executed_with_price(s),
+        b'E' => orders::parse_order_executed(s),
+        b'H' => notices::parse_trading_action(s),
+        b'I' => notices::parse_imbalance_indicator(s),
+        b'J' => notices::parse_luld_auction_collar(s),
+        b'K' => notices::parse_ipo_quoting_period(s),
+        b'L' => notices::parse_participant_position(s),
+        b'N' => notices::parse_retail_price_improvement_indicator(s),
+        b'P' => orders::parse_noncross_trade(s),
+        b'Q' => orders::parse_cross_trade(s),
+        b'R' => notices::parse_stock_directory(s),
+        b'S' => notices::parse_system_event(s),
+        b'U' => orders::parse_replace_order(s),
+        b'V' => notices::parse_mwcb_decline_level(s),
+        b'W' => notices::parse_breach(s),
+        b'X' => orders::parse_order_cancelled(s),
+        b'Y' => notices::parse_reg_sho_restriction(s),
+        _ => BodyRead::No(Fault::Refused(1, 2)),
+    }
+}
+
+pub fn parse_message(s: &[u8]) -> Window
+    ensures { λ r. ⌜ windowM r ≡ window (now (s .entry)) ⌝ }
+{
+    let h = format::read_header(s);
+    let HeaderRead::Got(header) = h else {
+        return Window::Incomplete;
+    };
+    let tag = header.tag;
+    let b = parse_body(s, tag);
+    match b {
+        BodyRead::Got(body, consumed) => Window::Message(
+            Message {
+                tag,
+                stock_locate: header.stock_locate,
+                tracking_number: header.tracking_number,
+                timestamp: header.timestamp,
+                body,
+            },
+            consumed,
+        ),
+        BodyRead::No(e) => match e {
+            Fault::Short => Window::Incomplete,
+            Fault::Refused(n, place) => Window::Refused(n, place),
+        },
+    }
+}

@@ -1,0 +1,191 @@
+// The messages: Message, Body with its 20 kinds, and their structs, named as in the Rust. A text is kept as the number that its bytes are, a price
+// as the raw number that it is on the wire.
+use codes::CrossType;
+use codes::EventCode;
+use codes::FinancialStatus;
+use codes::Flag;
+use codes::ImbalanceDirection;
+use codes::InterestFlag;
+use codes::IpoReleaseQualifier;
+use codes::IssueClassification;
+use codes::IssueSubType;
+use codes::LevelBreached;
+use codes::LuldRefPriceTier;
+use codes::MarketCategory;
+use codes::MarketMakerMode;
+use codes::MarketParticipantState;
+use codes::RegShoAction;
+use codes::Side;
+use codes::TradingState;
+use format::Fault;
+
+pub type Text4 = u32;
+
+pub type Text8 = u64;
+
+// Four decimal places.
+pub type Price4 = u32;
+
+// Eight decimal places.
+pub type Price8 = u64;
+
+// The attribution of an add order: F has one, A has none.
+pub enum Mpid {
+    Absent,
+    Present(Text4),
+}
+
+pub struct AddOrder {
+    pub reference: u64,
+    pub side: Side,
+    pub shares: u32,
+    pub stock: Text8,
+    pub price: Price4,
+    pub mpid: Mpid,
+}
+
+pub struct ImbalanceIndicator {
+    pub paired_shares: u64,
+    pub imbalance_shares: u64,
+    pub imbalance_direction: ImbalanceDirection,
+    pub stock: Text8,
+    pub far_price: Price4,
+    pub near_price: Price4,
+    pub current_ref_price: Price4,
+    pub cross_type: CrossType,
+    pub price_variation_indicator: u8,
+}
+
+pub struct IpoQuotingPeriod {
+    pub stock: Text8,
+    pub release_time: u32,
+    pub release_qualifier: IpoReleaseQualifier,
+    pub price: Price4,
+}
+
+pub struct MarketParticipantPosition {
+    pub mpid: Text4,
+    pub stock: Text8,
+    pub primary_market_maker: bool,
+    pub market_maker_mode: MarketMakerMode,
+    pub market_participant_state: MarketParticipantState,
+}
+
+pub struct RetailPriceImprovementIndicator {
+    pub stock: Text8,
+    pub interest_flag: InterestFlag,
+}
+
+pub struct NonCrossTrade {
+    pub reference: u64,
+    pub side: Side,
+    pub shares: u32,
+    pub stock: Text8,
+    pub price: Price4,
+    pub match_number: u64,
+}
+
+pub struct CrossTrade {
+    pub shares: u64,
+    pub stock: Text8,
+    pub cross_price: Price4,
+    pub match_number: u64,
+    pub cross_type: CrossType,
+}
+
+pub struct StockDirectory {
+    pub stock: Text8,
+    pub market_category: MarketCategory,
+    pub financial_status: FinancialStatus,
+    pub round_lot_size: u32,
+    pub round_lots_only: bool,
+    pub issue_classification: IssueClassification,
+    pub issue_subtype: IssueSubType,
+    pub authenticity: bool,
+    pub short_sale_threshold: Flag,
+    pub ipo_flag: Flag,
+    pub luld_ref_price_tier: LuldRefPriceTier,
+    pub etp_flag: Flag,
+    pub etp_leverage_factor: u32,
+    pub inverse_indicator: bool,
+}
+
+pub struct ReplaceOrder {
+    pub old_reference: u64,
+    pub new_reference: u64,
+    pub shares: u32,
+    pub price: Price4,
+}
+
+pub enum Body {
+    AddOrder(AddOrder),
+    Breach(LevelBreached),
+    BrokenTrade {
+        match_number: u64,
+    },
+    CrossTrade(CrossTrade),
+    DeleteOrder {
+        reference: u64,
+    },
+    Imbalance(ImbalanceIndicator),
+    IpoQuotingPeriod(IpoQuotingPeriod),
+    LULDAuctionCollar {
+        stock: Text8,
+        ref_price: Price4,
+        upper_price: Price4,
+        lower_price: Price4,
+        extension: u32,
+    },
+    MwcbDeclineLevel {
+        level1: Price8,
+        level2: Price8,
+        level3: Price8,
+    },
+    NonCrossTrade(NonCrossTrade),
+    OrderCancelled {
+        reference: u64,
+        cancelled: u32,
+    },
+    OrderExecuted {
+        reference: u64,
+        executed: u32,
+        match_number: u64,
+    },
+    OrderExecutedWithPrice {
+        reference: u64,
+        executed: u32,
+        match_number: u64,
+        printable: bool,
+        price: Price4,
+    },
+    ParticipantPosition(MarketParticipantPosition),
+    RegShoRestriction {
+        stock: Text8,
+        action: RegShoAction,
+    },
+    ReplaceOrder(ReplaceOrder),
+    RetailPriceImprovementIndicator(RetailPriceImprovementIndicator),
+    StockDirectory(StockDirectory),
+    SystemEvent {
+        event: EventCode,
+    },
+    TradingAction {
+        stock: Text8,
+        trading_state: TradingState,
+        reason: Text4,
+    },
+}
+
+pub struct Message {
+    pub tag: u8,
+    pub stock_locate: u16,
+    pub tracking_number: u16,
+    pub timestamp: u64,
+    pub body: Body,
+}
+
+// What reading a body answers: the body and the place behind it, or why there is none.
+pub enum BodyRead {
+    Got(Body, usize),
+    No(Fault),
+}
