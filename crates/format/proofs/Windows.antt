@@ -39,14 +39,14 @@ header-there : (s : List ℕ) → 13 ≤ length s → headerOf s ≡ accepted (g
 unfolding headerOf
 header-there s h = reads (header-reads s h) [] (λ h. accepted (drop 1 h))
 
-window-there : (s : List ℕ) → 13 ≤ length s
+pub window-there : (s : List ℕ) → 13 ≤ length s
     → window s ≡ pre (getD s 2 0 ∷ be (part s 3 2) ∷ be (part s 5 2) ∷ be (part s 7 6) ∷ []) (bodyOf (getD s 2 0) s)
 unfolding window bodyOf
 window-there s h =
     reads (header-reads s h) [] (message s)
     ∙ under-pre (find rows (getD s 2 0)) s 13 (getD s 2 0 ∷ be (part s 3 2) ∷ be (part s 5 2) ∷ be (part s 7 6) ∷ []) (getD s 2 0 ∷ [])
 
-window-cut : (s : List ℕ) → length s < 13 → window s ≡ incomplete
+pub window-cut : (s : List ℕ) → length s < 13 → window s ≡ incomplete
 unfolding window
 window-cut s h = header-cut s (message s) h
 

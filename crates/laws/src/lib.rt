@@ -1,0 +1,1 @@
+// The laws of the window: no code, but what the definition that parse_message meets says of every window. See proofs/.
