@@ -11,8 +11,8 @@ use lib.ListN.{length}
 use borrow.Author.Tests.{eqb-true}
 use Rattle.format.specs.Ascii.{'Y', 'N', 'P', 'M', '␣'}
 use Rattle.format.specs.Codes.{side, yesNo, tradingState, direction, imbalanceCross, qualifier, makerMode, participantState, interest, cross, category, status, class, authenticity, flag, tier, etpFlag, event, level, action, subtypes}
-use Rattle.format.specs.Layout.{Kind, num, code, etp, subtype, width, be, part, member, asYes, Got, got, short, refused, Verdict, fine, wrong, judge, placed, field}
-use Rattle.format.specs.Meaning.{faultM, num16M}
+use Rattle.format.specs.Layout.{num, code, etp, subtype, be, part, member, asYes, got, short, refused, fine, wrong, judge, placed, field}
+use Rattle.format.specs.Meaning.{faultM}
 use Rattle.format.specs.declared.Fault.{Fault}
 use Rattle.format.specs.declared.Fault.the-variants.{Short, Refused}
 use Rattle.codes.specs.declared.EventCode.{EventCode}
@@ -32,11 +32,8 @@ use Rattle.codes.specs.declared.LevelBreached.{LevelBreached}
 use Rattle.codes.specs.declared.InterestFlag.{InterestFlag}
 use Rattle.codes.specs.declared.Flag.{Flag}
 use Rattle.codes.specs.Names.{eventByte, eventFrom, categoryByte, categoryFrom, statusByte, statusFrom, classByte, classFrom, tierByte, tierFrom, makerModeByte, makerModeFrom, participantStateByte, participantStateFrom, actionByte, actionFrom, tradingStateByte, tradingStateFrom, sideByte, sideFrom, directionByte, directionFrom, crossByte, crossFrom, qualifierByte, qualifierFrom, levelByte, levelFrom, interestByte, interestFrom, flagByte, flagFrom, yesNoByte, authenticityByte, subtypeOf}
+use Rattle.format.proofs.Tests.{both, is-true}
 use Rattle.codes.proofs.Match.{NoneOf, none-of}
-
-both : (a b : Bool) → T (a && b) → T a × T b
-both true b t = (tt, t)
-both false b t = absurd t
 
 -- every code of a set is the byte of its name
 abbrev backs : {A : Type 0} → (A → ℕ) → (ℕ → A) → List ℕ → Bool
@@ -204,10 +201,6 @@ subtype-short s at e q = go (leb (at + 2) (length s)) e q
     go true Short q′ = let z : _≡_ {A = ℕ} 0 1 = cc in absurd (omega arith)
     go true (Refused n p) q′ = let z : _≡_ {A = ℕ} 0 1 = cc in absurd (omega arith)
     go false e′ q′ = q′
-
-is-true : (t : Bool) → T t → t ≡ true
-is-true true h = refl
-is-true false h = absurd h
 
 -- the arms of the match on a subtype
 pub hit : {v k : ℕ} (at : ℕ) → v ≡ k → T (member k subtypes) → got (k ∷ []) ≡ subtypeOf v at

@@ -11,7 +11,7 @@ use lib.ListN.{length, getD}
 use lib.Seq.{drop-cons}
 use borrow.Author.Tests.{le-leb, lt-leb, leb-true}
 use Rattle.format.specs.Utf8.{wellFormed}
-use Rattle.format.specs.Layout.{Kind, num, text, skip, width, be, part, Got, got, short, refused, Verdict, judge, placed, field}
+use Rattle.format.specs.Layout.{Kind, num, text, skip, width, be, part, got, short, refused, judge, placed, field}
 use Rattle.format.specs.Meaning.{faultM}
 use Rattle.format.specs.declared.Fault.{Fault}
 use Rattle.format.specs.declared.Fault.the-variants.{Short, Refused}

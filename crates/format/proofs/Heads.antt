@@ -1,26 +1,19 @@
 -- The header's two answers: short of 13 bytes it is incomplete, and else its fields are the numbers that the code reads.
 -- Assumes nothing.
-use mathlib.Core.Path.{_≡_, refl, sym, ap, _∙_}
+use mathlib.Core.Path.{_≡_, refl, sym}
 use mathlib.Core.List.{List, [], _∷_, _++_}
 use mathlib.Core.Bool.{Bool, true, false, _&&_}
-use mathlib.Core.Logic.{_⊎_, inl, inr, ⊎-elim}
+use mathlib.Core.Logic.{⊎-elim}
 use Prim.Native.Nat.{ℕ, _+_, _*_, _/_, _%_, _^_, _<_, _≤_}
 use native.Mathlib.Omega.{arith}
-use lib.Dec.{T, leb}
+use lib.Dec.{T}
 use lib.ListN.{length, getD, drop}
-use borrow.Author.Tests.{leb-true, leb-false}
-use Rattle.format.specs.Layout.{Kind, num, time, text, code, etp, subtype, skip, width, widths, be, part, got, short, judge, placed, field, Answer, accepted, incomplete, read}
+use Rattle.format.specs.Layout.{Kind, num, time, text, code, etp, subtype, skip, width, widths, be, part, got, short, judge, field, Answer, accepted, incomplete, read}
 use Rattle.format.specs.Rows.{header, headerOf}
+use Rattle.format.proofs.Tests.{both, le-or-lt}
 use Rattle.format.proofs.Bytes.{Bytes, be-one, be-split, be-below}
 use Rattle.format.proofs.Fields.{field-short, field-num, field-judged}
 use Rattle.format.proofs.Runs.{Reads, end, _⨾_, reads}
-
-pub le-or-lt : (a b : ℕ) → (a ≤ b) ⊎ (b < a)
-le-or-lt a b = go (leb a b) refl
-  where
-    go : (t : Bool) → leb a b ≡ t → (a ≤ b) ⊎ (b < a)
-    go true e = inl (leb-true a b e)
-    go false e = inr (leb-false a b e)
 
 -- kinds that refuse nothing
 abbrev plain : Kind → Bool
@@ -45,10 +38,6 @@ plain-got skip s at p h = ([], field-judged skip s at h)
 abbrev plains : List Kind → Bool
 plains [] = true
 plains (k ∷ ks) = plain k && plains ks
-
-both : (a b : Bool) → T (a && b) → T a × T b
-both true b t = (tt, t)
-both false b t = absurd t
 
 -- a row of such kinds that is not all there is incomplete
 cut : (ks : List Kind) (s : List ℕ) (at : ℕ) (acc : List ℕ) (go : List ℕ → ℕ → Answer) → T (plains ks) → at ≤ length s → length s < at + widths ks

@@ -8,11 +8,11 @@ use native.Mathlib.Numerals.{add-one, sub-one}
 use native.Mathlib.Omega.{arith}
 use lib.Bits.{bitAnd, and-block, and-shr}
 use lib.Dec.{leb, lit<}
-use lib.ListN.{length, getD, replicate}
+use lib.ListN.{length, getD}
 use lib.Seq.{drop-cons}
 use borrow.Author.Tests.{lt-ltb, leb-true, leb-false}
-use Rattle.format.specs.Layout.{beFrom, be, part}
-use Rattle.format.specs.Utf8.{Utf, fresh, tail, bad, due, lead, utfStep, utfRun, isFresh, wellFormed}
+use Rattle.format.specs.Layout.{be, part}
+use Rattle.format.specs.Utf8.{Utf, fresh, tail, bad, due, utfStep, utfRun, isFresh, wellFormed}
 use Rattle.format.proofs.Bytes.{Bytes, part-split, part-more, be-more}
 
 -- a run over two parts, one after the other

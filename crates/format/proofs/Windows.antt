@@ -1,18 +1,19 @@
 -- A window is its header, then its body: what the code's two parts answer, put together, is the window's answer.
 -- Assumes nothing.
-use mathlib.Core.Path.{_≡_, refl, sym, ap, _∙_}
+use mathlib.Core.Path.{_≡_, refl, sym, _∙_}
 use mathlib.Core.List.{List, [], _∷_, _++_, append-assoc}
 use mathlib.Core.Logic.{⊎-elim}
 use Prim.Native.Nat.{ℕ, _+_, _<_, _≤_}
 use native.Mathlib.Omega.{arith}
 use lib.ListN.{length, getD, drop}
 use Rattle.format.specs.Layout.{Kind, width, be, part, Got, got, short, refused, field, Answer, accepted, incomplete, refuses, step, read}
-use Rattle.format.specs.Rows.{Row, rows, Found, found, none, find, under, message, header, headerOf, bodyOf, window}
+use Rattle.format.specs.Rows.{rows, Found, found, none, find, under, message, header, headerOf, bodyOf, window}
 use Rattle.format.specs.Meaning.{stopM}
 use Rattle.format.specs.declared.Fault.{Fault}
 use Rattle.format.specs.declared.Fault.the-variants.{Short, Refused}
+use Rattle.format.proofs.Tests.{le-or-lt}
 use Rattle.format.proofs.Runs.{reads}
-use Rattle.format.proofs.Heads.{le-or-lt, header-cut, header-reads, header-short}
+use Rattle.format.proofs.Heads.{header-cut, header-reads, header-short}
 
 -- values in front of an answer
 abbrev pub pre : List ℕ → Answer → Answer

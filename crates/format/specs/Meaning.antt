@@ -16,7 +16,6 @@ use Rattle.format.specs.declared.Num64.{Num64}
 use Rattle.format.specs.declared.Num64.the-variants.{Got as Got64, No as No64}
 use Rattle.format.specs.declared.Utf.{Utf}
 use Rattle.format.specs.declared.Utf.the-variants.{Fresh, Tail, Bad}
-use Rattle.format.specs.declared.Header.{Header}
 use Rattle.format.specs.declared.HeaderRead.{HeaderRead}
 use Rattle.format.specs.declared.HeaderRead.the-variants.{Got as GotHeader, Short as ShortHeader}
 

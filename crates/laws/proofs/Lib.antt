@@ -1,3 +1,4 @@
 pub mod Rows
 pub mod Window
 pub mod Answers
+pub mod Unique

@@ -4,14 +4,14 @@
 use mathlib.Core.Path.{_≡_, refl, sym, ap, _∙_}
 use mathlib.Core.List.{List, [], _∷_, _++_, append-nil, append-assoc}
 use mathlib.Core.Logic.{⊎-elim}
-use Prim.Native.Nat.{ℕ, _+_, _≤_, _<_}
+use Prim.Native.Nat.{ℕ, _+_, _≤_}
 use native.Mathlib.Nat.{add-zero, add-assoc}
 use native.Mathlib.Omega.{arith}
-use lib.ListN.{length, take, drop, length-append, length-drop}
+use lib.ListN.{length, drop, length-append, length-drop}
 use lib.Seq.{take-append-le, drop-append-le}
-use Rattle.format.specs.Layout.{Kind, width, widths, part, Verdict, fine, wrong, placed, Got, got, short, refused, judge, field, Answer, accepted, incomplete, refuses, step, read}
+use Rattle.format.specs.Layout.{Kind, width, widths, part, Verdict, fine, wrong, placed, Got, got, short, refused, judge, field, Answer, accepted, incomplete, step, read}
 use Rattle.format.proofs.Fields.{field-short, field-judged}
-use Rattle.format.proofs.Heads.{le-or-lt}
+use Rattle.format.proofs.Tests.{le-or-lt}
 use Rattle.format.proofs.Runs.{Reads, end, _⨾_}
 
 -- an answer that more bytes do not change

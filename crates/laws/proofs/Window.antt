@@ -10,9 +10,9 @@ use Prim.Native.Nat.{ℕ, _+_, _≤_, _<_}
 use native.Mathlib.Omega.{arith}
 use lib.Dec.{T, eqb, leb, leb→le, eqb→eq}
 use lib.ListN.{length, drop, getD}
-use Rattle.format.specs.Layout.{Kind, widths, Answer, accepted, incomplete, refuses, read}
+use Rattle.format.specs.Layout.{widths, Answer, accepted, incomplete, refuses}
 use Rattle.format.specs.Rows.{Row, rows, Found, found, none, find, sizeIn, sizeOf, under, header, message, bodyOf, window}
-use Rattle.format.proofs.Heads.{le-or-lt}
+use Rattle.format.proofs.Tests.{both, le-or-lt}
 use Rattle.format.proofs.Windows.{pre, window-there, window-cut}
 use Rattle.laws.proofs.Rows.{Firm, keeps, enough, all-read, covers}
 
@@ -32,10 +32,6 @@ window-keeps s t h =
 abbrev sized : List Row → Bool
 sized [] = true
 sized (r ∷ rs) = (eqb (r .size) (11 + widths (r .body)) && leb (r .size) 50) && sized rs
-
-both : (a b : Bool) → T (a && b) → T a × T b
-both true b t = (tt, t)
-both false b t = absurd t
 
 abbrev Sized : Found → Type 0
 Sized (found r) = (r .size ≡ 11 + widths (r .body)) × (r .size ≤ 50)

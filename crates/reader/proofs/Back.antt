@@ -1,5 +1,5 @@
--- The meaning of a window's answer determines the answer: `windowFrom` undoes `windowM`. So two answers that the contract of `parse_message` allows
--- are equal, and the contract is an equation on the answer itself.
+-- The meaning of a window's answer determines the answer: `windowFrom` undoes `windowM`. So the contract of `parse_message` is an equation on the
+-- answer itself.
 -- Assumes nothing.
 use mathlib.Core.Path.{_≡_, refl, sym, ap, _∙_}
 use mathlib.Core.List.{List}
@@ -14,9 +14,6 @@ pub window-back : (r : Window) → windowFrom (windowM r) ≡ r
 window-back (Accepted m n) = simp body-back
 window-back Incomplete = refl
 window-back (Refused n p) = refl
-
-pub unique : (r r′ : Window) → windowM r ≡ windowM r′ → r ≡ r′
-unique r r′ e = sym (window-back r) ∙ ap windowFrom e ∙ window-back r′
 
 -- what `parse_message` ensures, as an equation on its answer
 pub exactly : (s : List ℕ) (r : Window) → windowM r ≡ window s → r ≡ windowOf s

@@ -1,6 +1,6 @@
 -- An unknown tag: what the last arm of the match on the tag knows, and that it is refusal 1 at place 2.
 -- Assumes nothing.
-use mathlib.Core.Path.{_≡_, refl, sym, ap, _∙_}
+use mathlib.Core.Path.{_≡_, refl}
 use mathlib.Core.Bool.{Bool, true, false, cond, _||_, true≢false}
 use mathlib.Core.List.{List, [], _∷_, _++_, map}
 use Prim.Native.Nat.{ℕ}
@@ -9,7 +9,7 @@ use mir.Val.{hasKey}
 use types.Run.{OneOf, hit}
 use Rattle.format.specs.Ascii.{'A', 'B', 'C', 'D', 'E', 'F', 'H', 'I', 'J', 'K', 'L', 'N', 'P', 'Q', 'R', 'S', 'U', 'V', 'W', 'X', 'Y'}
 use Rattle.format.specs.Layout.{refuses}
-use Rattle.format.specs.Rows.{Row, rows, Found, found, none, find, under, bodyOf}
+use Rattle.format.specs.Rows.{Row, rows, found, none, find, bodyOf}
 
 -- none of the tags of the arms before, the last outermost
 abbrev NoneOf : Type 0 → List (List ℕ) → ℕ → Type 0

@@ -3,7 +3,7 @@
 use mathlib.Core.Path.{_≡_, refl, sym, ap, _∙_}
 use mathlib.Core.Bool.{Bool, true, false, cond, _&&_}
 use mathlib.Core.List.{List, [], _∷_}
-use mathlib.Core.Logic.{_⊎_, inl, inr}
+use mathlib.Core.Logic.{inl, inr}
 use Prim.Native.Nat.{ℕ, zero, suc, _+_, _≤_, _<_}
 use native.Mathlib.Nat.{zero-add}
 use native.Mathlib.Omega.{arith}
@@ -11,16 +11,13 @@ use lib.Dec.{T, eqb}
 use types.Run.{OneOf}
 use borrow.Author.Tests.{eqb-true, eqb-false}
 use Rattle.format.specs.Codes.{etpFlag}
-use Rattle.format.specs.Layout.{Kind, num, code, etp, width, be, member, asYes, Got, got, fine, wrong, judge, placed, field}
-use Rattle.format.specs.Meaning.{faultM, num8M}
+use Rattle.format.specs.Layout.{Kind, num, code, etp, width, member, asYes, Got, fine, wrong, judge, placed, field}
+use Rattle.format.specs.Meaning.{num8M}
 use Rattle.format.specs.declared.Fault.{Fault}
 use Rattle.format.specs.declared.Num8.{Num8}
 use Rattle.format.specs.declared.Num8.the-variants.{Got as Got8, No as No8}
+use Rattle.format.proofs.Tests.{both, is-true}
 use Rattle.format.proofs.Fields.{one-byte, one-short}
-
-both : (a b : Bool) → T (a && b) → T a × T b
-both true b t = (tt, t)
-both false b t = absurd t
 
 -- the codes that a match names one by one, and those that it names by a range, are in a set if the set has them all
 abbrev within : List ℕ → List ℕ → Bool
@@ -31,12 +28,8 @@ abbrev from : ℕ → ℕ → List ℕ
 from lo zero = []
 from lo (suc n) = lo ∷ from (lo + 1) n
 
-is-true : (t : Bool) → T t → true ≡ t
-is-true true h = refl
-is-true false h = absurd h
-
 same : (set : List ℕ) {b k : ℕ} → b ≡ k → T (member k set) → true ≡ member b set
-same set {b} {k} e h = rw e (is-true (member k set) h)
+same set {b} {k} e h = rw e (sym (is-true (member k set) h))
 
 pub one-of : (set ks : List ℕ) (b : ℕ) → T (within ks set) → OneOf ks b → true ≡ member b set
 one-of set [] b t h = absurd h

@@ -1,6 +1,5 @@
 -- `notices::parse_system_event` meets its contract.
 -- Assumes nothing.
-use denote.Ref.{now}
 use mathlib.Core.Path.{refl}
 use Rattle.format.specs.Ascii.{'S'}
 use Rattle.format.specs.Meaning.{fault8, num8M}

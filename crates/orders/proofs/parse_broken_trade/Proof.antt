@@ -1,6 +1,5 @@
 -- `orders::parse_broken_trade` meets its contract.
 -- Assumes nothing.
-use denote.Ref.{now}
 use mathlib.Core.Path.{refl}
 use Rattle.format.specs.Ascii.{'B'}
 use Rattle.format.specs.Meaning.{fault64, num64M}

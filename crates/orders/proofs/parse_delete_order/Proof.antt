@@ -1,6 +1,5 @@
 -- `orders::parse_delete_order` meets its contract.
 -- Assumes nothing.
-use denote.Ref.{now}
 use mathlib.Core.Path.{refl}
 use Rattle.format.specs.Ascii.{'D'}
 use Rattle.format.specs.Meaning.{fault64, num64M}
