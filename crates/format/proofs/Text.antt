@@ -2,17 +2,18 @@
 -- Assumes nothing.
 use mathlib.Core.Path.{_≡_, refl, ap, sym, _∙_}
 use mathlib.Core.List.{List, [], _∷_, _++_}
-use mathlib.Core.Bool.{Bool, true, false, cond}
+use mathlib.Core.Bool.{Bool, true, false, cond, _&&_}
 use Prim.Native.Nat.{ℕ, zero, suc, _+_, _*_, _/_, _^_, _-_, _<_, _≤_}
 use native.Mathlib.Numerals.{add-one, sub-one}
 use native.Mathlib.Omega.{arith}
 use lib.Bits.{bitAnd, and-block, and-shr}
-use lib.Dec.{leb, lit<}
-use lib.ListN.{length, getD}
+use lib.Dec.{T, leb, leb→le, lit<}
+use lib.ListN.{length, getD, take, drop}
 use lib.Seq.{drop-cons}
-use borrow.Author.Tests.{lt-ltb, leb-true, leb-false}
+use borrow.Author.Tests.{lt-ltb, le-ltb, leb-true, leb-false}
 use Rattle.format.specs.Layout.{be, part}
-use Rattle.format.specs.Utf8.{Utf, fresh, tail, bad, due, utfStep, utfRun, isFresh, wellFormed}
+use Rattle.format.specs.Utf8.{Utf, fresh, tail, bad, Lead, row, grammar, leadIn, lead, due, utfStep, utfRun, isFresh, wellFormed}
+use Rattle.format.proofs.Tests.{both}
 use Rattle.format.proofs.Bytes.{Bytes, part-split, part-more, be-more}
 
 -- a run over two parts, one after the other
@@ -37,6 +38,26 @@ pub utf-four : (u : Utf) (s : List ℕ) (at : ℕ) → at + 4 ≤ length s
     → utfRun u (part s at 4)
     ≡ utfStep (utfStep (utfStep (utfStep u (getD s at 0)) (getD s (at + 1) 0)) (getD s (at + 2) 0)) (getD s (at + 3) 0)
 utf-four u s at h = rw (utf-more u s at 3 (omega arith), utf-more u s at 2 (omega arith), utf-more u s at 1 (omega arith), utf-one u s at (omega arith))
+
+-- a first byte that is not below the bounds of the first k rows of the grammar, of which `lo` is the last
+abbrev bounded : List Lead → ℕ → Bool
+bounded [] lo = true
+bounded (r ∷ rs) lo = leb (r .below) lo && bounded rs lo
+
+from-row : (k lo : ℕ) (rs : List Lead) (b : ℕ) → T (bounded (take k rs) lo) → lo ≤ b → leadIn rs b ≡ leadIn (drop k rs) b
+from-row zero lo rs b t h = refl
+from-row (suc k) lo [] b t h = refl
+from-row (suc k) lo (r ∷ rs) b t h =
+    let q = both (leb (r .below) lo) (bounded (take k rs) lo) t in
+    let l : r .below ≤ lo = leb→le (r .below) lo (q .0) in
+    rw (le-ltb b (r .below) (omega arith)) (from-row k lo rs b (q .1) h)
+
+-- a first byte in row k
+pub in-row : (k lo hi : ℕ) (u : Utf) (rs : List Lead) (b : ℕ) → T (bounded (take k grammar) lo) → drop k grammar ≡ row hi u ∷ rs → lo ≤ b → b < hi → u ≡ lead b
+in-row k lo hi u rs b t e l h = sym (from-row k lo grammar b t l ∙ ap (λ rs. leadIn rs b) e ∙ rw (lt-ltb b hi h))
+
+pub in-no-row : (b : ℕ) → 0xf5 ≤ b → bad ≡ lead b
+in-no-row b h = sym (from-row 10 0xf5 grammar b tt h)
 
 -- the steps inside a sequence
 pub tail-step : {n : ℕ} → (n ≡ 0 → ⊥) → (lo hi b : ℕ) → utfStep (tail n lo hi) b ≡ cond (leb lo b) (cond (leb b hi) (due (n - 1)) bad) bad

@@ -1,4 +1,4 @@
--- Well-formed UTF-8, as RFC 3629, section 4, has it: a text is a run of whole sequences. The rows of its grammar stand in `lead`, by the first
+-- Well-formed UTF-8, as RFC 3629, section 4, has it: a text is a run of whole sequences. The rows of its grammar stand in `grammar`, by the first
 -- byte of a sequence; a sequence's second byte has a range of its own, and each byte after that is 80..BF.
 -- Assumes nothing.
 use Prim.Native.Nat.{ℕ, zero, suc}
@@ -12,19 +12,38 @@ pub data Utf : Type 0 where
   tail : ℕ → ℕ → ℕ → Utf
   bad : Utf
 
--- after the first byte of a sequence: 00..7F; C2..DF; E0; E1..EC; ED; EE..EF; F0; F1..F3; F4; no other begins one
+-- the rows of the grammar: a first byte below this one, and in no row before, leads to that
+pub record Lead : Type 0 where
+  pub below : ℕ
+  pub leads : Utf
+
+abbrev pub row : ℕ → Utf → Lead
+row b u = record { below = b; leads = u }
+
+abbrev pub grammar : List Lead
+grammar =
+    -- 00..7F
+    row 0x80 fresh
+    ∷ row 0xc2 bad
+    -- C2..DF
+    ∷ row 0xe0 (tail 1 0x80 0xbf)
+    -- E0; E1..EC; ED; EE..EF
+    ∷ row 0xe1 (tail 2 0xa0 0xbf)
+    ∷ row 0xed (tail 2 0x80 0xbf)
+    ∷ row 0xee (tail 2 0x80 0x9f)
+    ∷ row 0xf0 (tail 2 0x80 0xbf)
+    -- F0; F1..F3; F4
+    ∷ row 0xf1 (tail 3 0x90 0xbf)
+    ∷ row 0xf4 (tail 3 0x80 0xbf)
+    ∷ row 0xf5 (tail 3 0x80 0x8f)
+    ∷ []
+
+abbrev pub leadIn : List Lead → ℕ → Utf
+leadIn [] b = bad
+leadIn (r ∷ rs) b = cond (ltb b (r .below)) (r .leads) (leadIn rs b)
+
 abbrev pub lead : ℕ → Utf
-lead b =
-    cond (ltb b 0x80) fresh
-    (cond (ltb b 0xc2) bad
-    (cond (ltb b 0xe0) (tail 1 0x80 0xbf)
-    (cond (ltb b 0xe1) (tail 2 0xa0 0xbf)
-    (cond (ltb b 0xed) (tail 2 0x80 0xbf)
-    (cond (ltb b 0xee) (tail 2 0x80 0x9f)
-    (cond (ltb b 0xf0) (tail 2 0x80 0xbf)
-    (cond (ltb b 0xf1) (tail 3 0x90 0xbf)
-    (cond (ltb b 0xf4) (tail 3 0x80 0xbf)
-    (cond (ltb b 0xf5) (tail 3 0x80 0x8f) bad)))))))))
+lead b = leadIn grammar b
 
 -- with n bytes of a sequence still due
 abbrev pub due : ℕ → Utf
