@@ -1,10 +1,10 @@
-// The bodies of orders and trades: A and F, B, C, D, E, P, Q, U, X.
+// The bodies of orders, trades and crosses: A and F, B, C, D, E, I, P, Q, U, X.
 //
 // Each takes its fields in order, from place 13 on. A field's answer is taken apart before the next is read, and the first that has no value
 // ends the body.
 ghost use mathlib.Core.Path.{_≡_};
 ghost use mathlib.Core.Bool.{cond};
-ghost use Rattle.format.specs.Ascii.{'A', 'B', 'C', 'D', 'E', 'F', 'P', 'Q', 'U', 'X'};
+ghost use Rattle.format.specs.Ascii.{'A', 'B', 'C', 'D', 'E', 'F', 'I', 'P', 'Q', 'U', 'X'};
 ghost use Rattle.format.specs.Rows.{bodyOf};
 ghost use Rattle.records.specs.Values.{bodyM};
 use format::Num8;
@@ -14,6 +14,7 @@ use records::AddOrder;
 use records::Body;
 use records::BodyRead;
 use records::CrossTrade;
+use records::ImbalanceIndicator;
 use records::Mpid;
 use records::NonCrossTrade;
 use records::ReplaceOrder;
@@ -149,6 +150,61 @@ pub fn parse_order_executed(s: &[u8]) -> BodyRead
             match_number,
         },
         tables::END_E,
+    )
+}
+
+pub fn parse_imbalance_indicator(s: &[u8]) -> BodyRead
+    ensures { λ r. ⌜ bodyM r ≡ bodyOf 'I' (now (s .entry)) ⌝ }
+{
+    let f1 = format::be_u64(s, 13);
+    let Num64::Got(paired_shares) = f1 else {
+        return BodyRead::No(format::no_u64(f1));
+    };
+    let f2 = format::be_u64(s, 21);
+    let Num64::Got(imbalance_shares) = f2 else {
+        return BodyRead::No(format::no_u64(f2));
+    };
+    let f3 = tables::direction_at(s, 29);
+    let Num8::Got(imbalance_direction) = f3 else {
+        return BodyRead::No(format::no_u8(f3));
+    };
+    let f4 = format::text8(s, 30);
+    let Num64::Got(stock) = f4 else {
+        return BodyRead::No(format::no_u64(f4));
+    };
+    let f5 = format::be_u32(s, 38);
+    let Num32::Got(far_price) = f5 else {
+        return BodyRead::No(format::no_u32(f5));
+    };
+    let f6 = format::be_u32(s, 42);
+    let Num32::Got(near_price) = f6 else {
+        return BodyRead::No(format::no_u32(f6));
+    };
+    let f7 = format::be_u32(s, 46);
+    let Num32::Got(current_ref_price) = f7 else {
+        return BodyRead::No(format::no_u32(f7));
+    };
+    let f8 = tables::imbalance_cross_at(s, 50);
+    let Num8::Got(cross_type) = f8 else {
+        return BodyRead::No(format::no_u8(f8));
+    };
+    let f9 = format::be_u8(s, 51);
+    let Num8::Got(price_variation_indicator) = f9 else {
+        return BodyRead::No(format::no_u8(f9));
+    };
+    BodyRead::Got(
+        Body::Imbalance(ImbalanceIndicator {
+            paired_shares,
+            imbalance_shares,
+            imbalance_direction: codes::direction_of(imbalance_direction),
+            stock,
+            far_price,
+            near_price,
+            current_ref_price,
+            cross_type: codes::cross_of(cross_type),
+            price_variation_indicator,
+        }),
+        tables::END_I,
     )
 }
 

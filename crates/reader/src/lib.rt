@@ -26,7 +26,7 @@ fn parse_body(s: &[u8], tag: u8) -> BodyRead
         b'C' => orders::parse_order_executed_with_price(s),
         b'E' => orders::parse_order_executed(s),
         b'H' => notices::parse_trading_action(s),
-        b'I' => notices::parse_imbalance_indicator(s),
+        b'I' => orders::parse_imbalance_indicator(s),
         b'J' => notices::parse_luld_auction_collar(s),
         b'K' => notices::parse_ipo_quoting_period(s),
         b'L' => notices::parse_participant_position(s),

@@ -1,4 +1,4 @@
--- `notices::parse_imbalance_indicator` meets its contract.
+-- `orders::parse_imbalance_indicator` meets its contract.
 -- Assumes nothing.
 use denote.Ref.{now}
 use mathlib.Core.Path.{refl}
@@ -7,8 +7,8 @@ use Rattle.format.specs.Meaning.{fault32, fault64, fault8, num32M, num64M, num8
 use Rattle.format.proofs.Runs.{value, fault, body-stops, body-reads, end, _⨾_, start, _▹_, Past}
 use Rattle.codes.proofs.Codes.{direction-named, imbalanceCross-named}
 use borrow.Author.Needs.{needs}
-use Rattle.notices.proofs.parse_imbalance_indicator.Statement.{statement}
-use Rattle.notices.proofs.parse_imbalance_indicator.Tie as tie
+use Rattle.orders.proofs.parse_imbalance_indicator.Statement.{statement}
+use Rattle.orders.proofs.parse_imbalance_indicator.Tie as tie
 
 past-1 : (c : tie.After-known-told) → Past 'I' (now (c .before .before .before .before .before .args .s)) 1
 past-1 c = start ▹ value num64M (c .before .before .before .be-u64 .ensures) (c .before .f1 .given .1)
