@@ -1,0 +1,81 @@
+-- The frame that a state is in, ended or carried on by a block, over plain values.
+-- Assumes nothing.
+use Prim.Native.Nat.{ℕ, _≤_, _<_, _-_, _+_, _*_, _^_}
+use mathlib.Core.Path.{_≡_, refl, sym, ap, _∙_}
+use mathlib.Core.Bool.{true}
+use mathlib.Core.List.{List}
+use native.Mathlib.Omega.{arith}
+use lib.ListN.{length, drop, length-drop}
+use Rattle.reader.specs.declared.Window.{Window}
+use Rattle.walk.specs.declared.Walk.{Walk}
+use Rattle.walk.specs.Walk.{frameSize, countOf, judgeOf, put, readyOf, doneOf, moreOf, pastOf, stepOf}
+use Rattle.walk.proofs.Held.{put-started}
+use Rattle.walk.proofs.Cases.{moved-more, moved-done, count-one}
+use Rattle.text.specs.Decimal.{Wrote}
+use Rattle.lines.specs.declared.Why.the-variants.{Used}
+use Rattle.lines.specs.declared.Blocked.{Blocked}
+use Rattle.lines.specs.Lines.{lineOf}
+use Rattle.lines.specs.Blocks.{longest, startOf, Called}
+use Rattle.lines.proofs.Turns.{Going, going-start, going-frame, going-cut, going-called}
+use Rattle.lines.proofs.Starts.{ready-all, ready-moves}
+
+module _ (win : List ℕ → Window) (w : Walk) (b : List ℕ) (from : ℕ) (out : List ℕ) (at : ℕ) (h : from < length b) (space : at + longest ≤ length out)
+    (e : readyOf w (length b - from) ≡ true) (held : List ℕ) (size : ℕ) (x : held ≡ put (w .held) (w .seen) (drop from b)) (z : size ≡ frameSize held) where
+  ready-here : readyOf w (length (drop from b)) ≡ true
+  ready-here = ap (readyOf w) (length-drop from b) ∙ e
+
+  begun : Going win b from out at w out w from at
+  begun = going-start win b from out at w (omega arith) (omega arith)
+
+  -- its last byte is not in the block
+  pub inside-cut : w .seen + (length b - from) < size
+      → Called win w b from out at out
+      (record {
+        state = record { offset = w .offset; seen = w .seen + (length b - from); held = held; frames = w .frames; accepted = w .accepted };
+        from = from + (length b - from);
+        at = at;
+        why = Used;
+      })
+  inside-cut lt =
+      let d = length-drop from b in
+      let m : stepOf win w (drop from b) ≡ moreOf w (put (w .held) (w .seen) (drop from b)) (length (drop from b)) =
+      ready-moves win w (drop from b) ready-here
+      ∙ sym (moved-more win w (drop from b) (put (w .held) (w .seen) (drop from b)) size refl (z ∙ ap frameSize x) (omega arith)) in
+      rw (x, ← d) (going-cut win b from out at w out w from at begun h (omega arith) m)
+
+  pub record Fitting (count : ℕ) : Type 0 where
+    pub within : from + (size - w .seen) ≤ length b
+    pub more : w .seen ≤ size
+    pub room : w .offset + size + (length b - (from + (size - w .seen))) < 2 ^ 64
+    pub two : 2 * (w .frames + 1) ≤ w .offset + size
+    pub counted : w .accepted + count ≤ w .frames + 1
+
+  pub inside-fits : (count : ℕ) → count ≡ countOf (judgeOf win held size) → size ≤ w .seen + (length b - from) → Fitting count
+  inside-fits count c le =
+      let r = ready-all w (length b - from) e in
+      let s = put-started (w .held) (w .seen) (drop from b) (r .started) in
+      let f : size ≡ frameSize (put (w .held) (w .seen) (drop from b)) = z ∙ ap frameSize x in
+      let k = count-one (judgeOf win held size) in
+      record {
+        within = omega arith;
+        more = omega arith;
+        room = omega (arith, r .room);
+        two = omega (arith, r .two);
+        counted = omega (arith, r .counted);
+      }
+
+  -- it is: the frame's line, and then the block from there on
+  pub inside-line : size ≤ w .seen + (length b - from) → (out' : List ℕ) (o' count : ℕ)
+      → Wrote (lineOf (record { at = w .offset; size = size; what = judgeOf win held size })) out at out' o' → count ≡ countOf (judgeOf win held size)
+      → (after : List ℕ) (r : Blocked)
+      → Called win (startOf (w .offset + size) (w .frames + 1) (w .accepted + count)) b (from + (size - w .seen)) out' o' after r
+      → Called win w b from out at after r
+  inside-line le out' o' count p c after r C =
+      let d = length-drop from b in
+      let v = judgeOf win held size in
+      let m : stepOf win w (drop from b) ≡ doneOf w (size - w .seen) size v =
+      ready-moves win w (drop from b) ready-here
+      ∙ sym (moved-done win w (drop from b) size v (doneOf w (size - w .seen) size v) (z ∙ ap frameSize x) (omega arith) (ap (λ (l : List ℕ). judgeOf win l size) x) refl) in
+      going-called win b from out at w out' (pastOf w size v) (from + (size - w .seen)) o'
+      (going-frame win b from out at w out w from at begun (doneOf w (size - w .seen) size v) h (omega arith) m (size - w .seen) size v refl out' o' p)
+      after r (rw c at C)

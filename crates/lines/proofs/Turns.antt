@@ -1,0 +1,229 @@
+-- What one turn over a block does, over plain values.
+-- Assumes nothing.
+use Prim.Native.Nat.{ℕ, zero, suc, _≤_, _<_, _-_, _+_}
+use mathlib.Core.Path.{_≡_, refl, sym, ap, _∙_}
+use mathlib.Core.Bool.{Bool, true, false, false≢true}
+use mathlib.Core.Logic.{_⊎_, inl, inr, ⊎-elim}
+use mathlib.Core.List.{List, _++_}
+use native.Mathlib.Omega.{arith}
+use native.Mathlib.Nat.{add-zero}
+use borrow.Author.Tests.{lt-ltb, le-ltb, ltb-true, ltb-false}
+use lib.ListN.{length, take, drop, length-drop, length-append}
+use lib.Seq.{take-all}
+use lib.Dec.{ltb}
+use Rattle.reader.specs.declared.Window.{Window}
+use Rattle.walk.specs.declared.Walk.{Walk}
+use Rattle.walk.specs.declared.Stepped.{Stepped}
+use Rattle.walk.specs.declared.Answer.{Answer}
+use Rattle.walk.specs.declared.Answer.the-variants.{Frame, WantsMore, Refused}
+use Rattle.walk.specs.declared.Verdict.{Verdict}
+use Rattle.walk.specs.Walk.{put, doneOf, pastOf, moreOf, stepOf}
+use Rattle.walk.specs.Frames.{Entry}
+use Rattle.text.specs.Decimal.{Wrote}
+use Rattle.text.proofs.Laws.{sets-append, wrote-long, wrote-none}
+use Rattle.lines.specs.declared.Why.{Why}
+use Rattle.lines.specs.declared.Why.the-variants.{Used, Full, Stopped}
+use Rattle.lines.specs.declared.Blocked.{Blocked}
+use Rattle.lines.specs.Lines.{lineOf, linesOf}
+use Rattle.lines.specs.Blocks.{longest, toldOf, refusesOf, cutOf, Block, stopped, telling, followed, leftOf, endOf, blockOf, callOf, Called}
+use Rattle.lines.proofs.Moves.{Moved, step-moved}
+
+pub less? : (m n : ℕ) → (m < n) ⊎ (n ≤ m)
+less? m n = go (ltb m n) refl
+  where
+    go : (b : Bool) → ltb m n ≡ b → (m < n) ⊎ (n ≤ m)
+    go true e = inl (ltb-true m n e)
+    go false e = inr (ltb-false m n e)
+
+-- the part from i on that is lent to a step
+pub part-all : (b : List ℕ) (i : ℕ) → take (length b - i) (drop i b) ≡ drop i b
+part-all b i = take-all (length b - i) (drop i b) (omega (arith, length-drop i b))
+
+-- a line told is put in front
+left-telling : (e : Entry) (r : Block) (out out' : List ℕ) (o o' : ℕ) → Wrote (lineOf e) out o out' o' → leftOf out' o' r ≡ leftOf out o (telling e r)
+unfolding linesOf
+left-telling e r out out' o o' p = rw (p .bytes, p .next) (sets-append (lineOf e) (linesOf (r .entries)) out o)
+
+end-telling : (e : Entry) (r : Block) (out out' : List ℕ) (o o' : ℕ) → Wrote (lineOf e) out o out' o' → endOf o' r ≡ endOf o (telling e r)
+unfolding linesOf
+end-telling e r out out' o o' p =
+    let l : o' + length (linesOf (r .entries)) ≡ o + length (lineOf e ++ linesOf (r .entries)) =
+    omega (arith, p .next, length-append (lineOf e) (linesOf (r .entries))) in
+    rw l
+
+module _ (win : List ℕ → Window) where
+  -- ---- the cases of `blockOf`
+
+  pub block-used : (k room : ℕ) (w : Walk) (b : List ℕ) (i : ℕ) → length b ≤ i → blockOf win k room w b i ≡ stopped w i Used
+  unfolding blockOf
+  block-used zero room w b i h = refl
+  block-used (suc k) room w b i h = rw (le-ltb i (length b) h)
+
+  pub block-full : (k room : ℕ) (w : Walk) (b : List ℕ) (i : ℕ) → i < length b → room < longest → blockOf win (suc k) room w b i ≡ stopped w i Full
+  unfolding blockOf
+  block-full k room w b i h r = rw (lt-ltb i (length b) h, lt-ltb room longest r)
+
+  pub block-step : (k room : ℕ) (w : Walk) (b : List ℕ) (i : ℕ) (st : Stepped) → i < length b → longest ≤ room → stepOf win w (drop i b) ≡ st
+      → blockOf win (suc k) room w b i
+      ≡ followed (st .answer) (λ e. telling e (blockOf win k (room - length (lineOf e)) (st .state) b (i + st .used))) (blockOf win k room (st .state) b (i + st .used)) (stopped w i Stopped)
+  unfolding blockOf
+  block-step k room w b i st h r e = rw (lt-ltb i (length b) h, le-ltb room longest r, e)
+
+  pub block-refused : (k room : ℕ) (w : Walk) (b : List ℕ) (i : ℕ) (st : Stepped) → i < length b → longest ≤ room → stepOf win w (drop i b) ≡ st
+      → refusesOf (st .answer) ≡ true → blockOf win (suc k) room w b i ≡ stopped w i Stopped
+  block-refused k room w b i st h r e = go (st .answer) refl
+    where
+      go : (a : Answer) → st .answer ≡ a → refusesOf a ≡ true → blockOf win (suc k) room w b i ≡ stopped w i Stopped
+      go (Frame at size what) y z = absurd (false≢true z)
+      go WantsMore y z = absurd (false≢true z)
+      go (Refused n) y z = block-step k room w b i st h r e ∙ rw y
+
+  -- a step that is not refused uses a byte or more, and none past the block
+  pub uses : (w : Walk) (b : List ℕ) (i : ℕ) (st : Stepped) → i < length b → stepOf win w (drop i b) ≡ st → refusesOf (st .answer) ≡ false
+      → (0 < st .used) × (i + st .used ≤ length b)
+  uses w b i st h e x =
+      let m : Moved w (drop i b) st = rw e at (step-moved win w (drop i b)) in
+      let d = length-drop i b in
+      (m .some x (omega arith), omega (arith, m .within))
+
+  same-after : (j k room : ℕ) (w : Walk) (b : List ℕ) (i : ℕ) (st : Stepped) (a : Answer)
+      → (refusesOf a ≡ false → (rm : ℕ) → blockOf win j rm (st .state) b (i + st .used) ≡ blockOf win k rm (st .state) b (i + st .used))
+      → followed a (λ e. telling e (blockOf win j (room - length (lineOf e)) (st .state) b (i + st .used))) (blockOf win j room (st .state) b (i + st .used)) (stopped w i Stopped)
+      ≡ followed a (λ e. telling e (blockOf win k (room - length (lineOf e)) (st .state) b (i + st .used))) (blockOf win k room (st .state) b (i + st .used)) (stopped w i Stopped)
+  same-after j k room w b i st (Frame at size what) ih =
+      let e : Entry = record { at = at; size = size; what = what } in
+      ap (telling e) (ih refl (room - length (lineOf e)))
+  same-after j k room w b i st WantsMore ih = ih refl room
+  same-after j k room w b i st (Refused n) ih = refl
+
+  -- as many steps as there are bytes are enough
+  block-enough : (j k room : ℕ) (w : Walk) (b : List ℕ) (i : ℕ) → length b - i ≤ j → length b - i ≤ k → blockOf win j room w b i ≡ blockOf win k room w b i
+  block-enough zero k room w b i h g = block-used zero room w b i (omega arith) ∙ sym (block-used k room w b i (omega arith))
+  block-enough (suc j) zero room w b i h g = block-used (suc j) room w b i (omega arith) ∙ sym (block-used zero room w b i (omega arith))
+  block-enough (suc j) (suc k) room w b i h g =
+      let st = stepOf win w (drop i b) in
+      ⊎-elim
+      (λ lt.
+      ⊎-elim (λ r. block-full j room w b i lt r ∙ sym (block-full k room w b i lt r))
+      (λ r.
+      block-step j room w b i st lt r refl
+      ∙ same-after j k room w b i st (st .answer)
+      (λ x rm.
+      let u = uses w b i st lt refl x in
+      block-enough j k rm (st .state) b (i + st .used) (omega (arith, u .0)) (omega (arith, u .0)))
+      ∙ sym (block-step k room w b i st lt r refl))
+      (less? room longest))
+      (λ le. block-used (suc j) room w b i le ∙ sym (block-used (suc k) room w b i le))
+      (less? i (length b))
+
+  -- ---- the invariant: what is left to do, done to what is there, is the answer
+
+  pub record Going (b : List ℕ) (from : ℕ) (out₀ : List ℕ) (at : ℕ) (w₀ : Walk) (out : List ℕ) (w : Walk) (i o : ℕ) : Type 0 where
+    pub fuel : ℕ
+    pub enough : length b - i ≤ fuel
+    pub inside : i ≤ length b
+    pub room : o ≤ length out
+    pub long : length out ≡ length out₀
+    pub text : leftOf out o (blockOf win fuel (length out - o) w b i) ≡ leftOf out₀ at (callOf win w₀ b from out₀ at)
+    pub end : endOf o (blockOf win fuel (length out - o) w b i) ≡ endOf at (callOf win w₀ b from out₀ at)
+
+  pub going-start : (b : List ℕ) (from : ℕ) (out : List ℕ) (at : ℕ) (w : Walk) → from ≤ length b → at ≤ length out → Going b from out at w out w from at
+  going-start b from out at w h g =
+      record { fuel = length b - from; enough = omega arith; inside = h; room = g; long = refl; text = refl; end = refl }
+
+  module _ (b : List ℕ) (from : ℕ) (out₀ : List ℕ) (at : ℕ) (w₀ : Walk) (out : List ℕ) (w : Walk) (i o : ℕ) (G : Going b from out₀ at w₀ out w i o) where
+    -- no further, for whatever reason
+    going-stopped : (y : Why) → blockOf win (G .fuel) (length out - o) w b i ≡ stopped w i y
+        → Called win w₀ b from out₀ at out (record { state = w; from = i; at = o; why = y })
+    unfolding linesOf
+    going-stopped y e = record { text = rw e at (G .text); end = rw (e, add-zero o) at (G .end); inside = omega (arith, G .room, G .long) }
+
+    pub going-used : length b ≤ i → Called win w₀ b from out₀ at out (record { state = w; from = i; at = o; why = Used })
+    going-used h = going-stopped Used (block-used (G .fuel) (length out - o) w b i h)
+
+    some-fuel : i < length b → (k : ℕ) × (G .fuel ≡ suc k)
+    some-fuel h = go (G .fuel) (G .enough)
+      where
+        go : (f : ℕ) → length b - i ≤ f → (k : ℕ) × (f ≡ suc k)
+        go zero l = absurd (omega arith)
+        go (suc k) l = (k, refl)
+
+    pub going-full : i < length b → length out - o < longest → Called win w₀ b from out₀ at out (record { state = w; from = i; at = o; why = Full })
+    going-full h r =
+        let f = some-fuel h in
+        going-stopped Full (rw (f .1) (block-full (f .0) (length out - o) w b i h r))
+
+    module _ (st : Stepped) (h : i < length b) (r : longest ≤ length out - o) (e : stepOf win w (drop i b) ≡ st) where
+      pub going-refused : refusesOf (st .answer) ≡ true → Called win w₀ b from out₀ at out (record { state = w; from = i; at = o; why = Stopped })
+      going-refused x =
+          let f = some-fuel h in
+          going-stopped Stopped (rw (f .1) (block-refused (f .0) (length out - o) w b i st h r e x))
+
+      -- one step on: its line, if it has one, is put
+      pub going-on : refusesOf (st .answer) ≡ false → (out' : List ℕ) (o' : ℕ) → Wrote (toldOf (st .answer)) out o out' o'
+          → Going b from out₀ at w₀ out' (st .state) (i + st .used) o'
+      going-on x out' o' p =
+          let f = some-fuel h in
+          let l : length out' ≡ length out = wrote-long p in
+          let u = uses w b i st h e x in
+          let q : (leftOf out' o' (rest (f .0) out' o') ≡ leftOf out o (here (f .0))) × (endOf o' (rest (f .0) out' o') ≡ endOf o (here (f .0))) =
+          go (f .0) out' o' l (st .answer) refl x p in
+          record {
+            fuel = f .0;
+            enough = omega (arith, G .enough, f .1);
+            inside = u .1;
+            room = omega (arith, p .inside);
+            long = l ∙ G .long;
+            text = q .0 ∙ rw (f .1, ← fold (f .0)) at (G .text);
+            end = q .1 ∙ rw (f .1, ← fold (f .0)) at (G .end);
+          }
+        where
+          rest : ℕ → List ℕ → ℕ → Block
+          rest k out' o' = blockOf win k (length out' - o') (st .state) b (i + st .used)
+
+          here : ℕ → Block
+          here k = blockOf win (suc k) (length out - o) w b i
+
+          fold : (k : ℕ) → here k ≡ blockOf win (suc k) (length out - o) w b i
+          fold k = refl
+
+          go : (k : ℕ) (out' : List ℕ) (o' : ℕ) → length out' ≡ length out → (a : Answer) → st .answer ≡ a → refusesOf a ≡ false → Wrote (toldOf a) out o out' o'
+              → (leftOf out' o' (rest k out' o') ≡ leftOf out o (here k)) × (endOf o' (rest k out' o') ≡ endOf o (here k))
+          go k out' o' l (Frame at size what) y z p =
+              let en : Entry = record { at = at; size = size; what = what } in
+              let rm : length out' - o' ≡ length out - o - length (lineOf en) = omega (arith, p .next, l) in
+              let u = block-step k (length out - o) w b i st h r e in
+              rw (u, y, ← rm) (left-telling en (rest k out' o') out out' o o' p, end-telling en (rest k out' o') out out' o o' p)
+          go k out' o' l WantsMore y z p =
+              let oo : o' ≡ o = omega (arith, p .next) in
+              let bb : out' ≡ out = p .bytes in
+              let u = block-step k (length out - o) w b i st h r e in
+              rw (u, y, oo, bb) (refl, refl)
+          go k out' o' l (Refused n) y z p = absurd (false≢true (sym z))
+
+      -- a frame ends: its line is put
+      pub going-frame : (u n : ℕ) (v : Verdict) → st ≡ doneOf w u n v → (out' : List ℕ) (o' : ℕ)
+          → Wrote (lineOf (record { at = w .offset; size = n; what = v })) out o out' o' → Going b from out₀ at w₀ out' (pastOf w n v) (i + u) o'
+      unfolding doneOf
+      going-frame u n v z out' o' p =
+          let q : Wrote (toldOf (st .answer)) out o out' o' = rw z p in
+          rw z at (going-on (ap (λ (x : Stepped). refusesOf (x .answer)) z) out' o' q)
+
+    -- a call that goes on from here is a part of the whole call
+    pub going-called : (after : List ℕ) (r : Blocked) → Called win w b i out o after r → Called win w₀ b from out₀ at after r
+    going-called after r C =
+        let e = block-enough (length b - i) (G .fuel) (length out - o) w b i (omega arith) (G .enough) in
+        record {
+          text = C .text ∙ ap (leftOf out o) e ∙ G .text;
+          end = C .end ∙ ap (endOf o) e ∙ G .end;
+          inside = omega (arith, C .inside, G .long);
+        }
+
+  -- the rest of the block ends no frame
+  pub going-cut : (b : List ℕ) (from : ℕ) (out₀ : List ℕ) (at : ℕ) (w₀ : Walk) (out : List ℕ) (w : Walk) (i o : ℕ) → Going b from out₀ at w₀ out w i o
+      → i < length b → longest ≤ length out - o → stepOf win w (drop i b) ≡ moreOf w (put (w .held) (w .seen) (drop i b)) (length (drop i b))
+      → Called win w₀ b from out₀ at out (record { state = cutOf w (drop i b); from = i + length (drop i b); at = o; why = Used })
+  going-cut b from out₀ at w₀ out w i o G h r e =
+      going-used b from out₀ at w₀ out (cutOf w (drop i b)) (i + length (drop i b)) o
+      (going-on b from out₀ at w₀ out w i o G (moreOf w (put (w .held) (w .seen) (drop i b)) (length (drop i b))) h r e refl out o (wrote-none out o (G .room)))
+      (omega (arith, length-drop i b))

@@ -1,0 +1,110 @@
+-- `lines::from_inside` meets its contract.
+-- Assumes nothing.
+use Prim.Native.Nat.{_-_}
+use native.Mathlib.Omega.{arith}
+use lib.ListN.{length}
+use Rattle.reader.specs.Window.{windowOf}
+use Rattle.text.proofs.Laws.{wrote-long}
+use Rattle.lines.proofs.Turns.{part-all}
+use Rattle.lines.proofs.Starts.{ready-all}
+use Rattle.lines.proofs.Inside.{inside-cut, inside-fits, inside-line}
+use borrow.Author.Needs.{needs}
+use Rattle.lines.proofs.from_inside.Statement.{statement}
+use Rattle.lines.proofs.from_inside.Tie as tie
+
+sub-put-in : tie.Need-sub-put-in
+sub-put-in c = search needs
+
+part-put-in-start : tie.Need-part-put-in-start
+part-put-in-start c = search needs
+
+part-put-in-end : tie.Need-part-put-in-end
+part-put-in-end c = search needs
+
+put-in-requires : tie.Need-put-in-requires
+put-in-requires c κs = search needs
+
+array-read-size-by : tie.Need-array-read-size-by
+array-read-size-by c = search needs
+
+array-read-size-by-2 : tie.Need-array-read-size-by-2
+array-read-size-by-2 c = search needs
+
+size-by-requires : tie.Need-size-by-requires
+size-by-requires c κs = search needs
+
+sub-left : tie.Need-sub-left
+sub-left c = search needs
+
+add-total : tie.Need-add-total
+add-total c = omega (arith, ready-all (c .before .before .before .before .before .before .args .w) (length (c .before .before .before .before .before .before .args .block .now) - (c .before .before .before .before .before .before .args .from)) (c .before .before .before .before .before .before .pre .2) .room)
+
+add-t32 : tie.Need-add-t32
+add-t32 c = search needs
+
+returns : tie.Need-returns
+returns c = inside-cut windowOf (c .before .before .before .before .before .before .before .args .w) (c .before .before .before .before .before .before .before .args .block .now) (c .before .before .before .before .before .before .before .args .from) (c .before .before .before .before .before .before .before .args .out .now) (c .before .before .before .before .before .before .before .args .at) (c .before .before .before .before .before .before .before .pre .0) (c .before .before .before .before .before .before .before .pre .1) (c .before .before .before .before .before .before .before .pre .2) (c .before .before .put-in .result) (c .before .size-by .result) (rw (part-all (c .before .before .before .before .before .before .before .args .block .now) (c .before .before .before .before .before .before .before .args .from)) at (c .before .before .put-in .ensures)) (c .before .size-by .ensures) (c .if1 .taken)
+
+slice-aggregate-line : tie.Need-slice-aggregate-line
+slice-aggregate-line c = search needs
+
+line-requires : tie.Need-line-requires
+line-requires c κs = search needs
+
+sub-used : tie.Need-sub-used
+sub-used c = inside-fits windowOf (c .before .before .before .before .before .before .before .before .before .before .before .before .args .w) (c .before .before .before .before .before .before .before .before .before .before .before .before .args .block .now) (c .before .before .before .before .before .before .before .before .before .before .before .before .args .from) (c .before .before .before .before .before .before .before .before .before .before .before .before .args .out .now) (c .before .before .before .before .before .before .before .before .before .before .before .before .args .at) (c .before .before .before .before .before .before .before .before .before .before .before .before .pre .0) (c .before .before .before .before .before .before .before .before .before .before .before .before .pre .1) (c .before .before .before .before .before .before .before .before .before .before .before .before .pre .2) (c .before .before .before .before .before .before .before .put-in .result) (c .before .before .before .before .before .before .size-by .result) (rw (part-all (c .before .before .before .before .before .before .before .before .before .before .before .before .args .block .now) (c .before .before .before .before .before .before .before .before .before .before .before .before .args .from)) at (c .before .before .before .before .before .before .before .put-in .ensures)) (c .before .before .before .before .before .before .size-by .ensures) (c .before .before .line .result .count) (c .before .before .line .ensures .1) (c .before .before .before .before .before .if1 .left) .more
+
+add-from-start : tie.Need-add-from-start
+add-from-start c = search needs
+
+add-from-start-2 : tie.Need-add-from-start-2
+add-from-start-2 c =
+    let f = inside-fits windowOf (c .before .before .before .before .before .before .before .before .before .before .before .before .before .args .w) (c .before .before .before .before .before .before .before .before .before .before .before .before .before .args .block .now) (c .before .before .before .before .before .before .before .before .before .before .before .before .before .args .from) (c .before .before .before .before .before .before .before .before .before .before .before .before .before .args .out .now) (c .before .before .before .before .before .before .before .before .before .before .before .before .before .args .at) (c .before .before .before .before .before .before .before .before .before .before .before .before .before .pre .0) (c .before .before .before .before .before .before .before .before .before .before .before .before .before .pre .1) (c .before .before .before .before .before .before .before .before .before .before .before .before .before .pre .2) (c .before .before .before .before .before .before .before .before .put-in .result) (c .before .before .before .before .before .before .before .size-by .result) (rw (part-all (c .before .before .before .before .before .before .before .before .before .before .before .before .before .args .block .now) (c .before .before .before .before .before .before .before .before .before .before .before .before .before .args .from)) at (c .before .before .before .before .before .before .before .before .put-in .ensures)) (c .before .before .before .before .before .before .before .size-by .ensures) (c .before .before .before .line .result .count) (c .before .before .before .line .ensures .1) (c .before .before .before .before .before .before .if1 .left) in
+    omega (arith, f .room)
+
+add-from-start-3 : tie.Need-add-from-start-3
+add-from-start-3 c =
+    let f = inside-fits windowOf (c .before .before .before .before .before .before .before .before .before .before .before .before .before .args .w) (c .before .before .before .before .before .before .before .before .before .before .before .before .before .args .block .now) (c .before .before .before .before .before .before .before .before .before .before .before .before .before .args .from) (c .before .before .before .before .before .before .before .before .before .before .before .before .before .args .out .now) (c .before .before .before .before .before .before .before .before .before .before .before .before .before .args .at) (c .before .before .before .before .before .before .before .before .before .before .before .before .before .pre .0) (c .before .before .before .before .before .before .before .before .before .before .before .before .before .pre .1) (c .before .before .before .before .before .before .before .before .before .before .before .before .before .pre .2) (c .before .before .before .before .before .before .before .before .put-in .result) (c .before .before .before .before .before .before .before .size-by .result) (rw (part-all (c .before .before .before .before .before .before .before .before .before .before .before .before .before .args .block .now) (c .before .before .before .before .before .before .before .before .before .before .before .before .before .args .from)) at (c .before .before .before .before .before .before .before .before .put-in .ensures)) (c .before .before .before .before .before .before .before .size-by .ensures) (c .before .before .before .line .result .count) (c .before .before .before .line .ensures .1) (c .before .before .before .before .before .before .if1 .left) in
+    omega (arith, f .room, f .two)
+
+add-from-start-4 : tie.Need-add-from-start-4
+add-from-start-4 c =
+    let f = inside-fits windowOf (c .before .before .before .before .before .before .before .before .before .before .before .before .before .before .args .w) (c .before .before .before .before .before .before .before .before .before .before .before .before .before .before .args .block .now) (c .before .before .before .before .before .before .before .before .before .before .before .before .before .before .args .from) (c .before .before .before .before .before .before .before .before .before .before .before .before .before .before .args .out .now) (c .before .before .before .before .before .before .before .before .before .before .before .before .before .before .args .at) (c .before .before .before .before .before .before .before .before .before .before .before .before .before .before .pre .0) (c .before .before .before .before .before .before .before .before .before .before .before .before .before .before .pre .1) (c .before .before .before .before .before .before .before .before .before .before .before .before .before .before .pre .2) (c .before .before .before .before .before .before .before .before .before .put-in .result) (c .before .before .before .before .before .before .before .before .size-by .result) (rw (part-all (c .before .before .before .before .before .before .before .before .before .before .before .before .before .before .args .block .now) (c .before .before .before .before .before .before .before .before .before .before .before .before .before .before .args .from)) at (c .before .before .before .before .before .before .before .before .before .put-in .ensures)) (c .before .before .before .before .before .before .before .before .size-by .ensures) (c .before .before .before .before .line .result .count) (c .before .before .before .before .line .ensures .1) (c .before .before .before .before .before .before .before .if1 .left) in
+    omega (arith, f .room, f .two, f .counted)
+
+from-start-requires : tie.Need-from-start-requires
+from-start-requires c κs =
+    let f = inside-fits windowOf (c .before .before .before .before .before .before .before .before .before .before .before .before .before .before .args .w) (c .before .before .before .before .before .before .before .before .before .before .before .before .before .before .args .block .now) (c .before .before .before .before .before .before .before .before .before .before .before .before .before .before .args .from) (c .before .before .before .before .before .before .before .before .before .before .before .before .before .before .args .out .now) (c .before .before .before .before .before .before .before .before .before .before .before .before .before .before .args .at) (c .before .before .before .before .before .before .before .before .before .before .before .before .before .before .pre .0) (c .before .before .before .before .before .before .before .before .before .before .before .before .before .before .pre .1) (c .before .before .before .before .before .before .before .before .before .before .before .before .before .before .pre .2) (c .before .before .before .before .before .before .before .before .before .put-in .result) (c .before .before .before .before .before .before .before .before .size-by .result) (rw (part-all (c .before .before .before .before .before .before .before .before .before .before .before .before .before .before .args .block .now) (c .before .before .before .before .before .before .before .before .before .before .before .before .before .before .args .from)) at (c .before .before .before .before .before .before .before .before .before .put-in .ensures)) (c .before .before .before .before .before .before .before .before .size-by .ensures) (c .before .before .before .before .line .result .count) (c .before .before .before .before .line .ensures .1) (c .before .before .before .before .before .before .before .if1 .left) in
+    (f .within, omega (arith, c .before .before .before .before .line .ensures .0 .inside, wrote-long (c .before .before .before .before .line .ensures .0)), f .room, f .two, f .counted)
+
+same-length : tie.Need-same-length
+same-length c = search needs
+
+returns-2 : tie.Need-returns-2
+returns-2 c = inside-line windowOf (c .before .before .before .before .before .before .before .before .before .before .before .before .before .before .before .before .before .args .w) (c .before .before .before .before .before .before .before .before .before .before .before .before .before .before .before .before .before .args .block .now) (c .before .before .before .before .before .before .before .before .before .before .before .before .before .before .before .before .before .args .from) (c .before .before .before .before .before .before .before .before .before .before .before .before .before .before .before .before .before .args .out .now) (c .before .before .before .before .before .before .before .before .before .before .before .before .before .before .before .before .before .args .at) (c .before .before .before .before .before .before .before .before .before .before .before .before .before .before .before .before .before .pre .0) (c .before .before .before .before .before .before .before .before .before .before .before .before .before .before .before .before .before .pre .1) (c .before .before .before .before .before .before .before .before .before .before .before .before .before .before .before .before .before .pre .2) (c .before .before .before .before .before .before .before .before .before .before .before .before .put-in .result) (c .before .before .before .before .before .before .before .before .before .before .before .size-by .result) (rw (part-all (c .before .before .before .before .before .before .before .before .before .before .before .before .before .before .before .before .before .args .block .now) (c .before .before .before .before .before .before .before .before .before .before .before .before .before .before .before .before .before .args .from)) at (c .before .before .before .before .before .before .before .before .before .before .before .before .put-in .ensures)) (c .before .before .before .before .before .before .before .before .before .before .before .size-by .ensures) (c .before .before .before .before .before .before .before .before .before .before .if1 .left) _ _ _ (c .before .before .before .before .before .before .before .line .ensures .0) (c .before .before .before .before .before .before .before .line .ensures .1) _ _ (c .before .before .from-start .ensures)
+
+pub from-inside-spec : {M : Type 1} → statement M
+from-inside-spec =
+    tie.close
+    (tie.spec
+    sub-put-in
+    part-put-in-start
+    part-put-in-end
+    put-in-requires
+    array-read-size-by
+    array-read-size-by-2
+    size-by-requires
+    sub-left
+    add-total
+    add-t32
+    returns
+    slice-aggregate-line
+    line-requires
+    sub-used
+    add-from-start
+    add-from-start-2
+    add-from-start-3
+    add-from-start-4
+    from-start-requires
+    same-length
+    returns-2)
