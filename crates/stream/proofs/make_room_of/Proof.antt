@@ -1,0 +1,104 @@
+-- `stream::make_room_of` meets its contract. Each test that led to a return picks the case of `roomOf` and of `roomBuffer`.
+-- Assumes nothing.
+use borrow.Author.Tests.{le-leb, lt-leb, eq-eqb, ne-eqb}
+use Rattle.stream.specs.Room.{roomOf, roomBuffer}
+use borrow.Author.Needs.{needs}
+use Rattle.stream.proofs.make_room_of.Statement.{statement}
+use Rattle.stream.proofs.make_room_of.Tie as tie
+
+refused-requires : tie.Need-refused-requires
+refused-requires c κs = search needs
+
+returns : tie.Need-returns
+unfolding roomOf roomBuffer
+returns c = (
+  simp (ne-eqb _ _ (c .before .if1 .taken)) (c .refused .ensures),
+  simp (ne-eqb _ _ (c .before .if1 .taken)),
+)
+
+refused-requires-2 : tie.Need-refused-requires-2
+refused-requires-2 c κs = search needs
+
+returns-2 : tie.Need-returns-2
+unfolding roomOf roomBuffer
+returns-2 c = (
+  simp (eq-eqb _ _ (c .before .before .if1 .left), lt-leb _ _ (c .before .if2 .taken)) (c .refused2 .ensures),
+  simp (eq-eqb _ _ (c .before .before .if1 .left), lt-leb _ _ (c .before .if2 .taken)),
+)
+
+refused-requires-3 : tie.Need-refused-requires-3
+refused-requires-3 c κs = search needs
+
+returns-3 : tie.Need-returns-3
+unfolding roomOf roomBuffer
+returns-3 c = (
+  simp (eq-eqb _ _ (c .before .before .before .if1 .left), le-leb _ _ (c .before .before .if2 .left), lt-leb _ _ (c .before .if3 .taken)) (c .refused3 .ensures),
+  simp (eq-eqb _ _ (c .before .before .before .if1 .left), le-leb _ _ (c .before .before .if2 .left), lt-leb _ _ (c .before .if3 .taken)),
+)
+
+refused-requires-4 : tie.Need-refused-requires-4
+refused-requires-4 c κs = search needs
+
+returns-4 : tie.Need-returns-4
+unfolding roomOf roomBuffer
+returns-4 c = (
+  simp (eq-eqb _ _ (c .before .before .before .before .if1 .left), le-leb _ _ (c .before .before .before .if2 .left), le-leb _ _ (c .before .before .if3 .left), le-leb _ _ (c .before .if4 .taken)) (c .refused4 .ensures),
+  simp (eq-eqb _ _ (c .before .before .before .before .if1 .left), le-leb _ _ (c .before .before .before .if2 .left), le-leb _ _ (c .before .before .if3 .left), le-leb _ _ (c .before .if4 .taken)),
+)
+
+refused-requires-5 : tie.Need-refused-requires-5
+refused-requires-5 c κs = search needs
+
+returns-5 : tie.Need-returns-5
+unfolding roomOf roomBuffer
+returns-5 c = (
+  simp (eq-eqb _ _ (c .before .before .before .before .before .if1 .left), le-leb _ _ (c .before .before .before .before .if2 .left), le-leb _ _ (c .before .before .before .if3 .left), lt-leb _ _ (c .before .before .if4 .left), eq-eqb _ _ (c .before .if5 .taken)) (c .refused5 .ensures),
+  simp (eq-eqb _ _ (c .before .before .before .before .before .if1 .left), le-leb _ _ (c .before .before .before .before .if2 .left), le-leb _ _ (c .before .before .before .if3 .left), lt-leb _ _ (c .before .before .if4 .left), eq-eqb _ _ (c .before .if5 .taken)),
+)
+
+shift-requires : tie.Need-shift-requires
+shift-requires c κs = search needs
+
+add-t12 : tie.Need-add-t12
+add-t12 c = search needs
+
+same-length : tie.Need-same-length
+same-length c = search needs
+
+returns-6 : tie.Need-returns-6
+unfolding roomOf roomBuffer
+returns-6 c = (
+  simp (eq-eqb _ _ (c .before .before .before .before .before .before .before .before .before .if1 .left), le-leb _ _ (c .before .before .before .before .before .before .before .before .if2 .left), le-leb _ _ (c .before .before .before .before .before .before .before .if3 .left), lt-leb _ _ (c .before .before .before .before .before .before .if4 .left), ne-eqb _ _ (c .before .before .before .before .before .if5 .left), eq-eqb _ _ (c .before .before .before .before .if6 .taken)),
+  simp (eq-eqb _ _ (c .before .before .before .before .before .before .before .before .before .if1 .left), le-leb _ _ (c .before .before .before .before .before .before .before .before .if2 .left), le-leb _ _ (c .before .before .before .before .before .before .before .if3 .left), lt-leb _ _ (c .before .before .before .before .before .before .if4 .left), ne-eqb _ _ (c .before .before .before .before .before .if5 .left), eq-eqb _ _ (c .before .before .before .before .if6 .taken)) (c .before .before .shift .ensures),
+)
+
+add-t15 : tie.Need-add-t15
+add-t15 c = search needs
+
+returns-7 : tie.Need-returns-7
+unfolding roomOf roomBuffer
+returns-7 c = (
+  simp (eq-eqb _ _ (c .before .before .before .before .before .if1 .left), le-leb _ _ (c .before .before .before .before .if2 .left), le-leb _ _ (c .before .before .before .if3 .left), lt-leb _ _ (c .before .before .if4 .left), ne-eqb _ _ (c .before .if5 .left), ne-eqb _ _ (c .if6 .left)),
+  simp (eq-eqb _ _ (c .before .before .before .before .before .if1 .left), le-leb _ _ (c .before .before .before .before .if2 .left), le-leb _ _ (c .before .before .before .if3 .left), lt-leb _ _ (c .before .before .if4 .left), ne-eqb _ _ (c .before .if5 .left), ne-eqb _ _ (c .if6 .left)),
+)
+
+pub make-room-of-spec : {M : Type 1} → statement M
+make-room-of-spec =
+    tie.close
+    (tie.spec
+    refused-requires
+    returns
+    refused-requires-2
+    returns-2
+    refused-requires-3
+    returns-3
+    refused-requires-4
+    returns-4
+    refused-requires-5
+    returns-5
+    shift-requires
+    add-t12
+    same-length
+    returns-6
+    add-t15
+    returns-7)

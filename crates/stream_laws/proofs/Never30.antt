@@ -1,0 +1,74 @@
+-- A sound state is never refused with 30, and every state that the calls reach from the fresh one is sound.
+-- Assumes nothing.
+use Prim.Native.Nat.{ℕ, _≤_}
+use mathlib.Core.Path.{_≡_, sym, ap, _∙_}
+use mathlib.Core.List.{List}
+use native.Mathlib.Omega.{arith}
+use Rattle.stream.specs.declared.Stream.{Stream}
+use Rattle.stream.specs.declared.Step.{Step}
+use Rattle.stream.specs.declared.Answer.{Answer}
+use Rattle.stream.specs.declared.Answer.the-variants.{Message, Wants, Ready, Nothing, Refused}
+use Rattle.stream.specs.State.{marks}
+use Rattle.stream.specs.Next.{windowAt, nextOf}
+use Rattle.stream.specs.Room.{roomOf}
+use Rattle.stream.specs.Told.{toldOf, failedOf}
+use Rattle.stream_laws.specs.Runs.{Sound, Reached}
+use Rattle.stream_laws.proofs.Steps.{test, Next, 31-next, 30-next, 33-next, message, wants, marked-next, next-is, Room, 31-room, 30-room, 34-room, 33-room, front, there, room-is, Told, 30-told, 32-told, 33-told, came, nothing, marked-told, told-is, Failed, 30-failed, marked-failed, failed-is}
+use Rattle.stream_laws.proofs.Numbers.{number-low}
+use Rattle.stream_laws.proofs.Reach.{known}
+
+-- the number of an answer; 0 if it is no refusal
+unfoldable pub numberOf : Answer → ℕ
+numberOf (Message m) = 0
+numberOf Wants = 0
+numberOf Ready = 0
+numberOf Nothing = 0
+numberOf (Refused n p) = n
+
+abbrev pub Not30 : Step → Type 0
+Not30 x = numberOf (x .answer) ≡ 30 → ⊥
+
+marks-not : (s : Stream) (n p : ℕ) → n ≤ 11 → Not30 (marks s n p)
+unfolding numberOf
+marks-not s n p h = test Not30 (s .error) (λ _ e. omega arith) (λ _ e. omega arith)
+
+next-not : (s : Stream) (b : List ℕ) (x : Step) → Next s b x → Sound s → Not30 x
+unfolding numberOf
+next-not s b _ (31-next _) h e = omega arith
+next-not s b _ (30-next f) h e = f h
+next-not s b _ (33-next _) h e = omega arith
+next-not s b _ (message g l m n w f) h e = omega arith
+next-not s b _ (wants g l w) h e = omega arith
+next-not s b _ (marked-next g l n p w) h e = marks-not s n p (omega (arith, number-low (windowAt s b) n p w)) e
+
+room-not : (s : Stream) (len : ℕ) (x : Step) → Room s len x → Sound s → Not30 x
+unfolding numberOf
+room-not s len _ (31-room _) h e = omega arith
+room-not s len _ (30-room f) h e = f h
+room-not s len _ (34-room _) h e = omega arith
+room-not s len _ (33-room _) h e = omega arith
+room-not s len _ (front g l f w a) h e = omega arith
+room-not s len _ (there g l f w a) h e = omega arith
+
+told-not : (s : Stream) (n : ℕ) (x : Step) → Told s n x → Sound s → Not30 x
+unfolding numberOf
+told-not s n _ (30-told f) h e = f h
+told-not s n _ (32-told _) h e = omega arith
+told-not s n _ (33-told _) h e = omega arith
+told-not s n _ (came g a c d) h e = omega arith
+told-not s n _ (nothing g z d) h e = omega arith
+told-not s n _ (marked-told g z) h e = marks-not s 10 0 (omega arith) e
+
+failed-not : (s : Stream) (x : Step) → Failed s x → Sound s → Not30 x
+failed-not s _ (30-failed f) h e = f h
+failed-not s _ (marked-failed g) h e = marks-not s 11 0 (omega arith) e
+
+pub never-30 : {s : Stream} {i j k : ℕ} → Reached s i j k
+    → ((b : List ℕ) → Not30 (nextOf s b)) × ((len : ℕ) → Not30 (roomOf s len)) × ((n : ℕ) → Not30 (toldOf s n)) × Not30 (failedOf s)
+never-30 {s} p =
+    let h : Sound s = known p .sound in (
+      λ b. next-not s b (nextOf s b) (next-is s b) h,
+      λ len. room-not s len (roomOf s len) (room-is s len) h,
+      λ n. told-not s n (toldOf s n) (told-is s n) h,
+      failed-not s (failedOf s) (failed-is s) h,
+    )

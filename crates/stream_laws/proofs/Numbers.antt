@@ -1,0 +1,73 @@
+-- A window is refused with 1, 2 or 3 and with no other number.
+-- Assumes nothing.
+use Prim.Native.Nat.{ℕ, _+_, _≤_}
+use mathlib.Core.Path.{_≡_}
+use mathlib.Core.Bool.{Bool, true, false, cond}
+use mathlib.Core.List.{List, [], _∷_, _++_}
+use native.Mathlib.Omega.{arith}
+use lib.Dec.{leb}
+use lib.ListN.{length, getD, drop}
+use Rattle.format.specs.Layout.{be, member, Kind, num, time, text, code, etp, subtype, skip, width, part, asYes, fine, wrong, placed, Got, got, short, refused, judge, field, Answer, accepted, incomplete, refuses, step, read}
+use Rattle.format.specs.Utf8.{wellFormed}
+use Rattle.format.specs.Codes.{etpFlag, subtypes}
+use Rattle.format.specs.Rows.{rows, Found, found, none, find, under, header, message, window}
+use Rattle.reader.specs.declared.Window.the-variants.{Refused}
+use Rattle.reader.specs.Window.{windowFrom, windowOf}
+
+data Field : Got → Type 0 where
+  value : {v : List ℕ} → Field (got v)
+  cut : Field short
+  bad : {n p : ℕ} → n ≤ 3 → Field (refused n p)
+
+data Whole : Answer → Type 0 where
+  read-all : {vs : List ℕ} {n : ℕ} → Whole (accepted vs n)
+  not-there : Whole incomplete
+  low : {n p : ℕ} → n ≤ 3 → Whole (refuses n p)
+
+judged : (b : Bool) (v : List ℕ) (n at : ℕ) → n ≤ 3 → Field (placed at (cond b (fine v) (wrong n 0)))
+judged true v n at h = value
+judged false v n at h = bad h
+
+judge-low : (k : Kind) (bs : List ℕ) (at : ℕ) → Field (placed at (judge k bs))
+unfolding judge
+judge-low (num w) bs at = value
+judge-low time bs at = value
+judge-low (text w) bs at = judged (wellFormed bs) (be bs ∷ []) 3 at (omega arith)
+judge-low (code set) bs at = judged (member (be bs) set) (be bs ∷ []) 2 at (omega arith)
+judge-low etp bs at = judged (member (be bs) etpFlag) (asYes (be bs) ∷ []) 2 at (omega arith)
+judge-low subtype bs at = judged (member (be bs) subtypes) (be bs ∷ []) 2 at (omega arith)
+judge-low skip bs at = value
+
+there : (b : Bool) (g : Got) → Field g → Field (cond b g short)
+there true g p = p
+there false g p = cut
+
+field-low : (k : Kind) (s : List ℕ) (at : ℕ) → Field (field k s at)
+unfolding field
+field-low k s at = there (leb (at + width k) (length s)) (placed at (judge k (part s at (width k)))) (judge-low k (part s at (width k)) at)
+
+step-low : (g : Got) (go : List ℕ → Answer) → Field g → ((v : List ℕ) → Whole (go v)) → Whole (step g go)
+step-low (got v) go p f = f v
+step-low short go p f = not-there
+step-low (refused n p) go (bad h) f = low h
+
+read-low : (ks : List Kind) (s : List ℕ) (at : ℕ) (vs : List ℕ) (go : List ℕ → ℕ → Answer) → ((vs : List ℕ) (n : ℕ) → Whole (go vs n)) → Whole (read ks s at vs go)
+read-low [] s at vs go f = f vs at
+read-low (k ∷ ks) s at vs go f = step-low (field k s at) _ (field-low k s at) (λ v. read-low ks s (at + width k) (vs ++ v) go f)
+
+under-low : (f : Found) (s : List ℕ) (at : ℕ) (vs : List ℕ) → Whole (under f s at vs)
+under-low (found r) s at vs = read-low (r .body) s at vs accepted (λ ws n. read-all)
+under-low none s at vs = low {n = 1} {p = 2} (omega arith)
+
+window-low : (s : List ℕ) → Whole (window s)
+unfolding window
+window-low s = read-low header s 0 [] (message s) (λ h at. under-low (find rows (getD h 1 0)) s at (drop 1 h ++ (getD h 1 0 ∷ [])))
+
+from-low : (a : Answer) (n p : ℕ) → Whole a → windowFrom a ≡ Refused n p → n ≤ 3
+from-low (accepted vs k) n p w e = let z : _≡_ {A = ℕ} 0 1 = cc in absurd (omega arith)
+from-low incomplete n p w e = let z : _≡_ {A = ℕ} 0 1 = cc in absurd (omega arith)
+from-low (refuses m o) n p (low h) e = let q : m ≡ n = cc in omega arith
+
+pub number-low : (s : List ℕ) (n p : ℕ) → windowOf s ≡ Refused n p → n ≤ 3
+unfolding windowOf
+number-low s n p e = from-low (window s) n p (window-low s) e

@@ -1,0 +1,35 @@
+-- `tally_lines::messages_line` meets its contract.
+-- Assumes nothing.
+use native.Mathlib.Omega.{arith}
+use Rattle.text.proofs.Laws.{wrote-append}
+use Rattle.tally_lines.specs.Lines.{messagesOf}
+use borrow.Author.Needs.{needs}
+use Rattle.tally_lines.proofs.messages_line.Statement.{statement}
+use Rattle.tally_lines.proofs.messages_line.Tie as tie
+
+word-requires : tie.Need-word-requires
+word-requires c κs = search needs
+
+word-requires-2 : tie.Need-word-requires-2
+word-requires-2 c κs = search needs
+
+byte-requires : tie.Need-byte-requires
+byte-requires c κs = search needs
+
+number-requires : tie.Need-number-requires
+number-requires c κs = search needs
+
+same-length : tie.Need-same-length
+same-length c = search needs
+
+returns : tie.Need-returns
+unfolding messagesOf
+returns c = (
+  wrote-append (c .before .before .before .before .before .before .before .before .before .before .before .before .before .before .word .ensures) (wrote-append (c .before .before .before .before .before .before .before .before .before .before .word2 .ensures) (wrote-append (c .before .before .before .before .before .before .byte .ensures) (c .before .before .number .ensures .0))),
+  omega (arith, c .before .before .before .before .before .before .before .before .before .before .before .before .before .before .word .ensures .next, c .before .before .before .before .before .before .before .before .before .before .word2 .ensures .next, c .before .before .before .before .before .before .byte .ensures .next, c .before .before .number .ensures .1),
+)
+
+pub messages-line-spec : {M : Type 1} → statement M
+messages-line-spec =
+    tie.close
+    (tie.spec word-requires word-requires-2 byte-requires number-requires same-length returns)

@@ -1,0 +1,32 @@
+-- `tally_lines::stopped_line` meets its contract.
+-- Assumes nothing.
+use native.Mathlib.Omega.{arith}
+use Rattle.text.proofs.Laws.{wrote-append}
+use Rattle.tally_lines.specs.Lines.{stoppedOf}
+use borrow.Author.Needs.{needs}
+use Rattle.tally_lines.proofs.stopped_line.Statement.{statement}
+use Rattle.tally_lines.proofs.stopped_line.Tie as tie
+
+word-requires : tie.Need-word-requires
+word-requires c κs = search needs
+
+word-requires-2 : tie.Need-word-requires-2
+word-requires-2 c κs = search needs
+
+number-requires : tie.Need-number-requires
+number-requires c κs = search needs
+
+number-requires-2 : tie.Need-number-requires-2
+number-requires-2 c κs = search needs
+
+same-length : tie.Need-same-length
+same-length c = search needs
+
+returns : tie.Need-returns
+unfolding stoppedOf
+returns c = wrote-append (c .before .before .before .before .before .before .before .before .before .before .before .before .before .before .word .ensures) (wrote-append (c .before .before .before .before .before .before .before .before .before .before .word2 .ensures) (wrote-append (c .before .before .before .before .before .before .number .ensures .0) (c .before .before .number2 .ensures .0)))
+
+pub stopped-line-spec : {M : Type 1} → statement M
+stopped-line-spec =
+    tie.close
+    (tie.spec word-requires word-requires-2 number-requires number-requires-2 same-length returns)

@@ -1,0 +1,55 @@
+-- What `tally` prints, as bytes: a line for each tag value with a count above zero, in byte order, then the messages, then where the stream stopped.
+-- Assumes nothing.
+use Prim.Native.Nat.{ℕ, zero, suc}
+use mathlib.Core.Bool.{cond}
+use mathlib.Core.List.{List, [], _∷_, _++_}
+use lib.Dec.{ltb}
+use lib.ListN.{getD}
+use Rattle.text.specs.Decimal.{decimalOf}
+use Rattle.stream.specs.declared.Answer.{Answer}
+use Rattle.stream.specs.declared.Answer.the-variants.{Message, Wants, Ready, Nothing, Refused}
+
+-- a number and the byte behind it: a space, or the line's end
+abbrev pub behind : ℕ → ℕ → List ℕ
+behind n mark = decimalOf n ++ (mark ∷ [])
+
+-- the line of a tag value, if it has one
+unfoldable pub lineOf : ℕ → ℕ → List ℕ
+lineOf tag n = cond (ltb 0 n) ((tag ∷ 32 ∷ []) ++ behind n 10) []
+
+-- the lines of the tag values below k
+unfoldable pub linesOf : List ℕ → ℕ → List ℕ
+linesOf c zero = []
+linesOf c (suc k) = linesOf c k ++ lineOf k (getD c k 0)
+
+-- `messages ` and `stopped `
+abbrev pub messagesText : List ℕ
+messagesText = 109 ∷ 101 ∷ 115 ∷ 115 ∷ 97 ∷ 103 ∷ 101 ∷ 115 ∷ 32 ∷ []
+
+abbrev pub stoppedText : List ℕ
+stoppedText = 115 ∷ 116 ∷ 111 ∷ 112 ∷ 112 ∷ 101 ∷ 100 ∷ 32 ∷ []
+
+-- the number and the place that an answer prints: its own, if it is a refusal; 0 and 0 at a clean end
+abbrev pub numberOf : Answer → ℕ
+numberOf (Refused n p) = n
+numberOf (Message m) = 0
+numberOf Wants = 0
+numberOf Ready = 0
+numberOf Nothing = 0
+
+abbrev pub placeOf : Answer → ℕ
+placeOf (Refused n p) = p
+placeOf (Message m) = 0
+placeOf Wants = 0
+placeOf Ready = 0
+placeOf Nothing = 0
+
+unfoldable pub messagesOf : ℕ → List ℕ
+messagesOf n = messagesText ++ behind n 10
+
+unfoldable pub stoppedOf : ℕ → ℕ → List ℕ
+stoppedOf number place = stoppedText ++ (behind number 32 ++ behind place 10)
+
+-- the whole output
+unfoldable pub tallyOf : List ℕ → ℕ → Answer → List ℕ
+tallyOf c messages a = linesOf c 256 ++ (messagesOf messages ++ stoppedOf (numberOf a) (placeOf a))

@@ -1,0 +1,98 @@
+// The lines of `tally`, put into a lent buffer.
+ghost use mathlib.Core.Path.{_≡_};
+ghost use Prim.Native.Nat.{_+_, _≤_};
+ghost use lib.ListN.{length};
+ghost use Rattle.text.specs.Decimal.{Wrote};
+ghost use Rattle.tally_lines.specs.Lines.{behind, lineOf, linesOf, numberOf, placeOf, messagesOf, stoppedOf, tallyOf};
+use stream::Answer;
+
+// A number, and a byte behind it.
+fn number(n: u64, mark: u8, out: &mut [u8], at: usize) -> usize
+    requires { ⌜ at + 21 ≤ length (now out) ⌝ }
+    ensures { λ r. ⌜ Wrote (behind n mark) (now (out .entry)) at (now (out .exit)) r × (r ≤ at + 21) ⌝ }
+{
+    let next = text::decimal(n, out, at);
+    text::byte(mark, out, next)
+}
+
+// The line of a tag value, if its count is above zero.
+fn line(tag: u8, n: u64, out: &mut [u8], at: usize) -> usize
+    requires { ⌜ at + 23 ≤ length (now out) ⌝ }
+    ensures { λ r. ⌜ Wrote (lineOf tag n) (now (out .entry)) at (now (out .exit)) r × (r ≤ at + 23) ⌝ }
+{
+    if n > 0 {
+        let a = text::byte(tag, out, at);
+        let b = text::byte(32, out, a);
+        return number(n, 10, out, b);
+    }
+    at
+}
+
+fn lines(count: &[u64], out: &mut [u8]) -> usize
+    requires { ⌜ (length (now count) ≡ 256) × (5888 ≤ length (now out)) ⌝ }
+    ensures { λ r. ⌜ Wrote (linesOf (now (count .entry)) 256) (now (out .entry)) 0 (now (out .exit)) r × (r ≤ 5888) ⌝ }
+{
+    let mut at = 0;
+    let mut k = 0;
+    while k < 256 {
+        at = line(k as u8, count[k], out, at);
+        k += 1;
+    }
+    at
+}
+
+fn messages_line(messages: u64, out: &mut [u8], at: usize) -> usize
+    requires { ⌜ at + 30 ≤ length (now out) ⌝ }
+    ensures { λ r. ⌜ Wrote (messagesOf messages) (now (out .entry)) at (now (out .exit)) r × (r ≤ at + 30) ⌝ }
+{
+    let a = text::word(109, 101, 115, 115, out, at);
+    let b = text::word(97, 103, 101, 115, out, a);
+    let c = text::byte(32, out, b);
+    number(messages, 10, out, c)
+}
+
+fn stopped_line(stop: u8, place: usize, out: &mut [u8], at: usize) -> usize
+    requires { ⌜ at + 50 ≤ length (now out) ⌝ }
+    ensures { λ r. ⌜ Wrote (stoppedOf stop place) (now (out .entry)) at (now (out .exit)) r ⌝ }
+{
+    let a = text::word(115, 116, 111, 112, out, at);
+    let b = text::word(112, 101, 100, 32, out, a);
+    let c = number(stop as u64, 32, out, b);
+    number(place as u64, 10, out, c)
+}
+
+fn number_of(answer: Answer) -> u8
+    ensures { λ r. ⌜ r ≡ numberOf answer ⌝ }
+{
+    match answer {
+        Answer::Refused(number, _) => number,
+        Answer::Message(_) => 0,
+        Answer::Wants => 0,
+        Answer::Ready => 0,
+        Answer::Nothing => 0,
+    }
+}
+
+fn place_of(answer: Answer) -> usize
+    ensures { λ r. ⌜ r ≡ placeOf answer ⌝ }
+{
+    match answer {
+        Answer::Refused(_, place) => place,
+        Answer::Message(_) => 0,
+        Answer::Wants => 0,
+        Answer::Ready => 0,
+        Answer::Nothing => 0,
+    }
+}
+
+// The whole output at the front of the buffer; the place behind it is answered.
+pub fn tally(count: &[u64], messages: u64, answer: Answer, out: &mut [u8]) -> usize
+    requires { ⌜ (length (now count) ≡ 256) × (5968 ≤ length (now out)) ⌝ }
+    ensures { λ r. ⌜ Wrote (tallyOf (now (count .entry)) messages answer) (now (out .entry)) 0 (now (out .exit)) r ⌝ }
+{
+    let stop = number_of(answer);
+    let place = place_of(answer);
+    let a = lines(count, out);
+    let b = messages_line(messages, out, a);
+    stopped_line(stop, place, out, b)
+}

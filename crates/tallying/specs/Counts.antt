@@ -1,0 +1,45 @@
+-- The counters: one for each tag value, raised by a message of that tag; and what taking the window's messages comes to.
+-- Assumes nothing.
+use Prim.Native.Nat.{ℕ, _+_}
+use mathlib.Core.Path.{_≡_}
+use mathlib.Core.Bool.{true}
+use mathlib.Core.List.{List, [], _∷_}
+use lib.ListN.{length, getD, set}
+use Rattle.records.specs.declared.Message.{Message as Record}
+use Rattle.stream.specs.declared.Stream.{Stream}
+use Rattle.stream.specs.declared.Step.{Step}
+use Rattle.stream.specs.declared.Answer.the-variants.{Message, Ready}
+use Rattle.stream.specs.Next.{nextOf}
+use Rattle.stream_laws.specs.Ends.{stops}
+
+unfoldable pub sum : List ℕ → ℕ
+sum [] = 0
+sum (x ∷ xs) = x + sum xs
+
+-- 256 counters that have counted n messages
+pub record Counters (c : List ℕ) (n : ℕ) : Type 0 where
+  pub all : length c ≡ 256
+  pub total : sum c ≡ n
+
+-- the counters behind a message
+abbrev pub raised : List ℕ → Record → List ℕ
+raised c m = set c (m .tag) (getD c (m .tag) 0 + 1)
+
+-- messages taken one behind the other, from state s and counters c on, and counted
+pub data Taken (b : List ℕ) (s : Stream) (c : List ℕ) : Stream → List ℕ → Type 0 where
+  none : Taken b s c s c
+  more : {t : Stream} {d : List ℕ} → Taken b s c t d → (m : Record) → nextOf t b .answer ≡ Message m → Taken b s c (nextOf t b .state) (raised d m)
+
+-- all that the window has: r is the first answer that is not a message, and the counters have counted its messages
+pub record Drained (b : List ℕ) (s : Stream) (c : List ℕ) (r : Step) (d : List ℕ) : Type 0 where
+  pub last : Stream
+  pub taken : Taken b s c last d
+  pub step : r ≡ nextOf last b
+  pub stops : (m : Record) → r .answer ≡ Message m → ⊥
+  pub counted : Counters d (r .state .messages)
+
+-- a read: the messages stay; where bytes came one more call is counted, and any other answer ends the run
+pub record ReadSome (s : Stream) (r : Step) : Type 0 where
+  pub messages : r .state .messages ≡ s .messages
+  pub calls : r .answer ≡ Ready → r .state .«read_calls» ≡ s .«read_calls» + 1
+  pub ends : (r .answer ≡ Ready → ⊥) → stops (r .answer) ≡ true

@@ -1,0 +1,89 @@
+// The run of the stream over standard input, to its first refusal or its end, with a counter for each tag value. It stands in a library, so that
+// `tally` and the two programs that only test it on other inputs are the same code.
+ghost use mathlib.Core.Path.{_≡_};
+ghost use mathlib.Core.Bool.{true};
+ghost use Prim.Native.Nat.{_+_};
+ghost use Rattle.stream.specs.declared.Answer.the-variants.{Ready};
+ghost use Rattle.stream_laws.specs.Ends.{stops};
+ghost use Rattle.tallying.specs.Counts.{Counters, Drained, ReadSome};
+use stream::Answer;
+use stream::Step;
+use stream::Stream;
+
+// Takes and counts the window's messages, to the first answer that is none. The loop has this one way out, so that it stays small.
+fn drain(s0: Stream, b: &[u8], count: &mut [u64]) -> Step
+    requires { ⌜ Counters (now count) (s0 .messages) ⌝ }
+    ensures { λ r. ⌜ Drained (now (b .entry)) s0 (now (count .entry)) r (now (count .exit)) ⌝ }
+{
+    let mut s = s0;
+    loop {
+        let step = stream::next_of(s, b);
+        let state = step.state;
+        let answer = step.answer;
+        let Answer::Message(message) = answer else {
+            return Step { state, answer };
+        };
+        let k = message.tag as usize;
+        count[k] = count[k] + 1;
+        s = state;
+    }
+}
+
+// Room is made, the free part of the buffer is handed on for the read, and the state is told what came of it.
+fn read_some(s: Stream, buf: &mut [u8]) -> Step
+    ensures { λ r. ⌜ ReadSome s r ⌝ }
+{
+    let step = stream::make_room_of(s, buf);
+    let state = step.state;
+    let answer = step.answer;
+    let Answer::Ready = answer else {
+        return Step { state, answer };
+    };
+    let end = state.end;
+    let free = &mut buf[end..];
+    let got = libc::read(0, free);
+    if got < 0 {
+        return stream::told_failed_of(state);
+    }
+    let n = io::count(got, free);
+    stream::told_of(state, n)
+}
+
+fn run(count: &mut [u64]) -> Step
+    requires { ⌜ Counters (now count) 0 ⌝ }
+    ensures { λ r. ⌜ Counters (now (count .exit)) (r .state .messages) × (stops (r .answer) ≡ true) ⌝ }
+{
+    let mut buf = [0u8; 8192];
+    let mut s = stream::fresh();
+    loop {
+        let step = drain(s, &buf, count);
+        let state = step.state;
+        let answer = step.answer;
+        let Answer::Wants = answer else {
+            return Step { state, answer };
+        };
+        let turn = read_some(state, &mut buf);
+        let fed = turn.state;
+        let heard = turn.answer;
+        let Answer::Ready = heard else {
+            return Step {
+                state: fed,
+                answer: heard,
+            };
+        };
+        s = fed;
+    }
+}
+
+// Runs the stream, and prints the counts.
+pub fn print_tally() {
+    let mut count = [0u64; 256];
+    let mut out = [0u8; 8192];
+    let last = run(&mut count);
+    let state = last.state;
+    let answer = last.answer;
+    let n = tally_lines::tally(&count, state.messages, answer, &mut out);
+    if !io::write_all(1, &out[..n]) {
+        io::write_all(2, b"tally: standard output cannot be written\n");
+    }
+}
