@@ -1,0 +1,40 @@
+-- `pen::put4` meets its contract.
+-- Assumes nothing.
+use denote.Ref.{now}
+use mathlib.Core.Path.{ap, _∙_}
+use Prim.Native.Nat.{_+_, _%_, _^_}
+use lib.Seq.{sets}
+use Rattle.pen.specs.Encode.{digits}
+use Rattle.pen.proofs.Digits.{joins}
+use borrow.Author.Needs.{needs}
+use Rattle.pen.proofs.put4.Statement.{statement}
+use Rattle.pen.proofs.put4.Tie as tie
+
+cast-put2 : tie.Need-cast-put2
+cast-put2 c = search needs
+
+put2-requires : tie.Need-put2-requires
+put2-requires c κs = search needs
+
+add-put2 : tie.Need-add-put2
+add-put2 c = search needs
+
+cast-put2-2 : tie.Need-cast-put2-2
+cast-put2-2 c = search needs
+
+put2-requires-2 : tie.Need-put2-requires-2
+put2-requires-2 c κs = search needs
+
+same-length : tie.Need-same-length
+same-length c = search needs
+
+returns : tie.Need-returns
+returns c =
+    c .before .before .put22 .ensures
+    ∙ ap (λ l. sets l (c .before .before .before .before .before .before .before .before .before .args .at + 2) (digits 2 (c .before .before .before .before .before .before .before .before .before .args .v % 256 ^ 2))) (c .before .before .before .before .before .before .put2 .ensures)
+    ∙ joins (now (c .before .before .before .before .before .before .before .before .before .args .buf)) (c .before .before .before .before .before .before .before .before .before .args .at) 2 2 (c .before .before .before .before .before .before .before .before .before .args .v)
+
+pub put4-spec : {M : Type 1} → statement M
+put4-spec =
+    tie.close
+    (tie.spec cast-put2 put2-requires add-put2 cast-put2-2 put2-requires-2 same-length returns)

@@ -1,0 +1,111 @@
+// The leaves of the writer: big-endian numbers put into a buffer at a place, and whether a text is UTF-8. What the bytes are stands in
+// specs/Encode.
+//
+// A place is a u8, so that `place + width` cannot wrap; where a number does not fit, nothing is put, so that no caller can break a leaf. A test
+// a field costs less than it looks: under one test of the whole length the compiler drops it and joins the bytes to one store.
+ghost use mathlib.Core.Path.{_≡_};
+ghost use Prim.Native.Nat.{_+_, _^_, _<_, _≤_};
+ghost use lib.ListN.{length};
+ghost use lib.Seq.{sets};
+ghost use Rattle.format.specs.Utf8.{wellFormed};
+ghost use Rattle.pen.specs.Encode.{digits, putIn};
+use format::Num32;
+use format::Num64;
+
+// The wider ones are two narrower ones.
+fn put2(buf: &mut [u8], at: usize, v: u16)
+    requires { ⌜ at + 2 ≤ length (now buf) ⌝ }
+    ensures { λ r. ⌜ now (buf .exit) ≡ sets (now (buf .entry)) at (digits 2 v) ⌝ }
+{
+    buf[at] = (v / 256) as u8;
+    buf[at + 1] = (v % 256) as u8;
+}
+
+fn put4(buf: &mut [u8], at: usize, v: u32)
+    requires { ⌜ at + 4 ≤ length (now buf) ⌝ }
+    ensures { λ r. ⌜ now (buf .exit) ≡ sets (now (buf .entry)) at (digits 4 v) ⌝ }
+{
+    put2(buf, at, (v / 65536) as u16);
+    put2(buf, at + 2, (v % 65536) as u16);
+}
+
+fn put8(buf: &mut [u8], at: usize, v: u64)
+    requires { ⌜ at + 8 ≤ length (now buf) ⌝ }
+    ensures { λ r. ⌜ now (buf .exit) ≡ sets (now (buf .entry)) at (digits 8 v) ⌝ }
+{
+    put4(buf, at, (v / 4294967296) as u32);
+    put4(buf, at + 4, (v % 4294967296) as u32);
+}
+
+fn put6(buf: &mut [u8], at: usize, v: u64)
+    requires { ⌜ at + 6 ≤ length (now buf) ⌝ }
+    ensures { λ r. ⌜ now (buf .exit) ≡ sets (now (buf .entry)) at (digits 6 v) ⌝ }
+{
+    put2(buf, at, (v / 4294967296 % 65536) as u16);
+    put4(buf, at + 2, (v % 4294967296) as u32);
+}
+
+pub fn set_u8(buf: &mut [u8], place: u8, v: u8)
+    ensures { λ r. ⌜ (now (buf .exit) ≡ putIn (now (buf .entry)) place (digits 1 v)) × (v < 256 ^ 1) ⌝ }
+{
+    let at = place as usize;
+    if at + 1 <= buf.len() {
+        buf[at] = v;
+    }
+}
+
+pub fn set_u16(buf: &mut [u8], place: u8, v: u16)
+    ensures { λ r. ⌜ (now (buf .exit) ≡ putIn (now (buf .entry)) place (digits 2 v)) × (v < 256 ^ 2) ⌝ }
+{
+    let at = place as usize;
+    if at + 2 <= buf.len() {
+        put2(buf, at, v);
+    }
+}
+
+pub fn set_u32(buf: &mut [u8], place: u8, v: u32)
+    ensures { λ r. ⌜ (now (buf .exit) ≡ putIn (now (buf .entry)) place (digits 4 v)) × (v < 256 ^ 4) ⌝ }
+{
+    let at = place as usize;
+    if at + 4 <= buf.len() {
+        put4(buf, at, v);
+    }
+}
+
+pub fn set_u64(buf: &mut [u8], place: u8, v: u64)
+    ensures { λ r. ⌜ (now (buf .exit) ≡ putIn (now (buf .entry)) place (digits 8 v)) × (v < 256 ^ 8) ⌝ }
+{
+    let at = place as usize;
+    if at + 8 <= buf.len() {
+        put8(buf, at, v);
+    }
+}
+
+// The last six bytes of a number: the timestamp.
+pub fn set_u48(buf: &mut [u8], place: u8, v: u64)
+    ensures { λ r. ⌜ now (buf .exit) ≡ putIn (now (buf .entry)) place (digits 6 v) ⌝ }
+{
+    let at = place as usize;
+    if at + 6 <= buf.len() {
+        put6(buf, at, v);
+    }
+}
+
+// Whether a text is UTF-8: its bytes, read by the reader's leaf.
+pub fn is_text4(v: u32) -> bool
+    ensures { λ r. ⌜ r ≡ wellFormed (digits 4 v) ⌝ }
+{
+    let mut b = [0u8; 4];
+    put4(&mut b, 0, v);
+    let f = format::text4(&b, 0);
+    if let Num32::Got(_) = f { true } else { false }
+}
+
+pub fn is_text8(v: u64) -> bool
+    ensures { λ r. ⌜ r ≡ wellFormed (digits 8 v) ⌝ }
+{
+    let mut b = [0u8; 8];
+    put8(&mut b, 0, v);
+    let f = format::text8(&b, 0);
+    if let Num64::Got(_) = f { true } else { false }
+}

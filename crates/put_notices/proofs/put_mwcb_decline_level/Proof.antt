@@ -1,0 +1,35 @@
+-- `put_notices::put_mwcb_decline_level` meets its contract.
+-- Assumes nothing.
+use denote.Ref.{now}
+use Rattle.pen.specs.Encode.{layout}
+use Rattle.pen.proofs.Puts.{body-puts, end, _⨾_}
+use Rattle.records.specs.declared.Body.the-variants as Body·
+use Rattle.records.specs.Values.{values}
+use borrow.Author.Needs.{needs}
+use Rattle.put_notices.proofs.put_mwcb_decline_level.Statement.{statement}
+use Rattle.put_notices.proofs.put_mwcb_decline_level.Tie as tie
+
+set-u64-requires : tie.Need-set-u64-requires
+set-u64-requires c κs = search needs
+
+set-u64-requires-2 : tie.Need-set-u64-requires-2
+set-u64-requires-2 c κs = search needs
+
+set-u64-requires-3 : tie.Need-set-u64-requires-3
+set-u64-requires-3 c κs = search needs
+
+same-length : tie.Need-same-length
+same-length c = search needs
+
+returns : tie.Need-returns
+unfolding layout
+returns c =
+    body-puts (now (c .before .before .before .before .before .before .before .before .before .before .before .before .before .args .buf)) (values (Body·.MwcbDeclineLevel (c .before .before .before .before .before .before .before .before .before .before .before .before .before .args .level1) (c .before .before .before .before .before .before .before .before .before .before .before .before .before .args .level2) (c .before .before .before .before .before .before .before .before .before .before .before .before .before .args .level3)))
+    (c .before .before .before .before .before .before .before .before .before .before .set-u64 .ensures
+    ⨾ c .before .before .before .before .before .before .set-u642 .ensures
+    ⨾ c .before .before .set-u643 .ensures
+    ⨾ end)
+
+pub put-mwcb-decline-level-spec : {M : Type 1} → statement M
+put-mwcb-decline-level-spec =
+    tie.close (tie.spec set-u64-requires set-u64-requires-2 set-u64-requires-3 same-length returns)

@@ -1,0 +1,50 @@
+-- `put_notices::put_trading_action` meets its contract.
+-- Assumes nothing.
+use denote.Ref.{now}
+use Rattle.pen.specs.Encode.{layout}
+use Rattle.pen.proofs.Puts.{body-puts, end, _⨾_, _by_⨾_}
+use Rattle.records.specs.declared.Body.the-variants as Body·
+use Rattle.records.specs.Values.{values}
+use borrow.Author.Needs.{needs}
+use Rattle.put_notices.proofs.put_trading_action.Statement.{statement}
+use Rattle.put_notices.proofs.put_trading_action.Tie as tie
+
+set-u64-requires : tie.Need-set-u64-requires
+set-u64-requires c κs = search needs
+
+trading-state-code-requires : tie.Need-trading-state-code-requires
+trading-state-code-requires c κs = search needs
+
+set-u8-requires : tie.Need-set-u8-requires
+set-u8-requires c κs = search needs
+
+set-u8-requires-2 : tie.Need-set-u8-requires-2
+set-u8-requires-2 c κs = search needs
+
+set-u32-requires : tie.Need-set-u32-requires
+set-u32-requires c κs = search needs
+
+same-length : tie.Need-same-length
+same-length c = search needs
+
+returns : tie.Need-returns
+unfolding layout
+returns c =
+    body-puts (now (c .before .before .before .before .before .before .before .before .before .before .before .before .before .before .before .before .before .before .args .buf)) (values (Body·.TradingAction (c .before .before .before .before .before .before .before .before .before .before .before .before .before .before .before .before .before .before .args .stock) (c .before .before .before .before .before .before .before .before .before .before .before .before .before .before .before .before .before .before .args .trading-state) (c .before .before .before .before .before .before .before .before .before .before .before .before .before .before .before .before .before .before .args .reason)))
+    (c .before .before .before .before .before .before .before .before .before .before .before .before .before .before .before .set-u64 .ensures
+    ⨾ c .before .before .before .before .before .before .before .before .before .before .set-u8 .ensures by c .before .before .before .before .before .before .before .before .before .before .before .trading-state-code .ensures
+    ⨾ c .before .before .before .before .before .before .set-u82 .ensures
+    ⨾ c .before .before .set-u32 .ensures
+    ⨾ end)
+
+pub put-trading-action-spec : {M : Type 1} → statement M
+put-trading-action-spec =
+    tie.close
+    (tie.spec
+    set-u64-requires
+    trading-state-code-requires
+    set-u8-requires
+    set-u8-requires-2
+    set-u32-requires
+    same-length
+    returns)

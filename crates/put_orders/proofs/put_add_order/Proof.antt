@@ -1,0 +1,57 @@
+-- `put_orders::put_add_order` meets its contract.
+-- Assumes nothing.
+use denote.Ref.{now}
+use Rattle.pen.proofs.Puts.{end, _⨾_, _by_⨾_}
+use Rattle.put_orders.proofs.Orders.{order-puts}
+use borrow.Author.Needs.{needs}
+use Rattle.put_orders.proofs.put_add_order.Statement.{statement}
+use Rattle.put_orders.proofs.put_add_order.Tie as tie
+
+set-u64-requires : tie.Need-set-u64-requires
+set-u64-requires c κs = search needs
+
+side-code-requires : tie.Need-side-code-requires
+side-code-requires c κs = search needs
+
+set-u8-requires : tie.Need-set-u8-requires
+set-u8-requires c κs = search needs
+
+set-u32-requires : tie.Need-set-u32-requires
+set-u32-requires c κs = search needs
+
+set-u64-requires-2 : tie.Need-set-u64-requires-2
+set-u64-requires-2 c κs = search needs
+
+set-u32-requires-2 : tie.Need-set-u32-requires-2
+set-u32-requires-2 c κs = search needs
+
+put-mpid-requires : tie.Need-put-mpid-requires
+put-mpid-requires c κs = search needs
+
+same-length : tie.Need-same-length
+same-length c = search needs
+
+returns : tie.Need-returns
+returns c =
+    order-puts (now (c .before .before .before .before .before .before .before .before .before .before .before .before .before .before .before .before .before .before .before .before .before .before .before .before .before .before .args .buf)) (c .before .before .before .before .before .before .before .before .before .before .before .before .before .before .before .before .before .before .before .before .before .before .before .before .before .before .args .x) (c .before .before .before .before .before .before .before .before .before .before .before .before .before .before .before .before .before .before .before .before .before .before .before .before .before .before .args .x .mpid)
+    (c .before .before .before .before .before .before .before .before .before .before .before .before .before .before .before .before .before .before .before .before .before .before .before .set-u64 .ensures
+    ⨾ c .before .before .before .before .before .before .before .before .before .before .before .before .before .before .before .before .before .before .set-u8 .ensures by c .before .before .before .before .before .before .before .before .before .before .before .before .before .before .before .before .before .before .before .side-code .ensures
+    ⨾ c .before .before .before .before .before .before .before .before .before .before .before .before .before .before .set-u32 .ensures
+    ⨾ c .before .before .before .before .before .before .before .before .before .before .set-u642 .ensures
+    ⨾ c .before .before .before .before .before .before .set-u322 .ensures
+    ⨾ end)
+    (c .before .before .put-mpid .ensures)
+
+pub put-add-order-spec : {M : Type 1} → statement M
+put-add-order-spec =
+    tie.close
+    (tie.spec
+    set-u64-requires
+    side-code-requires
+    set-u8-requires
+    set-u32-requires
+    set-u64-requires-2
+    set-u32-requires-2
+    put-mpid-requires
+    same-length
+    returns)

@@ -1,0 +1,26 @@
+-- `put_orders::put_broken_trade` meets its contract.
+-- Assumes nothing.
+use denote.Ref.{now}
+use Rattle.pen.specs.Encode.{layout}
+use Rattle.pen.proofs.Puts.{body-puts, end, _⨾_}
+use Rattle.records.specs.declared.Body.the-variants as Body·
+use Rattle.records.specs.Values.{values}
+use borrow.Author.Needs.{needs}
+use Rattle.put_orders.proofs.put_broken_trade.Statement.{statement}
+use Rattle.put_orders.proofs.put_broken_trade.Tie as tie
+
+set-u64-requires : tie.Need-set-u64-requires
+set-u64-requires c κs = search needs
+
+same-length : tie.Need-same-length
+same-length c = search needs
+
+returns : tie.Need-returns
+unfolding layout
+returns c =
+    body-puts (now (c .before .before .before .before .before .args .buf)) (values (Body·.BrokenTrade (c .before .before .before .before .before .args .match-number)))
+    (c .before .before .set-u64 .ensures
+    ⨾ end)
+
+pub put-broken-trade-spec : {M : Type 1} → statement M
+put-broken-trade-spec = tie.close (tie.spec set-u64-requires same-length returns)

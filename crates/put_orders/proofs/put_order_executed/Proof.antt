@@ -1,0 +1,35 @@
+-- `put_orders::put_order_executed` meets its contract.
+-- Assumes nothing.
+use denote.Ref.{now}
+use Rattle.pen.specs.Encode.{layout}
+use Rattle.pen.proofs.Puts.{body-puts, end, _⨾_}
+use Rattle.records.specs.declared.Body.the-variants as Body·
+use Rattle.records.specs.Values.{values}
+use borrow.Author.Needs.{needs}
+use Rattle.put_orders.proofs.put_order_executed.Statement.{statement}
+use Rattle.put_orders.proofs.put_order_executed.Tie as tie
+
+set-u64-requires : tie.Need-set-u64-requires
+set-u64-requires c κs = search needs
+
+set-u32-requires : tie.Need-set-u32-requires
+set-u32-requires c κs = search needs
+
+set-u64-requires-2 : tie.Need-set-u64-requires-2
+set-u64-requires-2 c κs = search needs
+
+same-length : tie.Need-same-length
+same-length c = search needs
+
+returns : tie.Need-returns
+unfolding layout
+returns c =
+    body-puts (now (c .before .before .before .before .before .before .before .before .before .before .before .before .before .args .buf)) (values (Body·.OrderExecuted (c .before .before .before .before .before .before .before .before .before .before .before .before .before .args .reference) (c .before .before .before .before .before .before .before .before .before .before .before .before .before .args .executed) (c .before .before .before .before .before .before .before .before .before .before .before .before .before .args .match-number)))
+    (c .before .before .before .before .before .before .before .before .before .before .set-u64 .ensures
+    ⨾ c .before .before .before .before .before .before .set-u32 .ensures
+    ⨾ c .before .before .set-u642 .ensures
+    ⨾ end)
+
+pub put-order-executed-spec : {M : Type 1} → statement M
+put-order-executed-spec =
+    tie.close (tie.spec set-u64-requires set-u32-requires set-u64-requires-2 same-length returns)

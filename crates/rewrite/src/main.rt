@@ -1,0 +1,170 @@
+// Reads a recording from standard input, writes every message back and compares: a line for each, its tag and whether the bytes are the same, then
+// how many there were and how many were the same. It stops at the first refusal, and says so. Bytes are taken one by one: each strict prefix of a
+// message is incomplete, so the window is always one message.
+use libc::STDIN_FILENO;
+use libc::STDOUT_FILENO;
+use reader::Window;
+use records::Message;
+use writer::Written;
+
+struct State {
+    window: [u8; 52],
+    have: usize,
+    messages: u64,
+    same: u64,
+    stopped: bool,
+}
+
+// Whether the first n bytes are the same.
+fn compared(a: [u8; 52], b: [u8; 52], n: usize) -> bool {
+    let mut i = 0;
+    while i < n {
+        if i >= 52 {
+            return false;
+        }
+        if a[i] != b[i] {
+            return false;
+        }
+        i += 1;
+    }
+    true
+}
+
+fn rewritten(m: Message, window: [u8; 52], n: usize) -> bool {
+    let mut out = [0u8; 52];
+    let w = writer::write(m, &mut out);
+    let Written::Done(k) = w else {
+        return false;
+    };
+    if k != n {
+        return false;
+    }
+    compared(window, out, n)
+}
+
+fn line(tag: u8, same: bool) {
+    if same {
+        io::write_all(STDOUT_FILENO, &[tag, 32, 115, 97, 109, 101, 10]);
+    } else {
+        io::write_all(STDOUT_FILENO, &[tag, 32, 111, 116, 104, 101, 114, 10]);
+    }
+}
+
+fn counted(s: State, m: Message, n: usize) -> State {
+    let window = s.window;
+    let tag = m.tag;
+    let same = rewritten(m, window, n);
+    line(tag, same);
+    if s.messages == u64::MAX {
+        return State {
+            window,
+            have: 0,
+            messages: s.messages,
+            same: s.same,
+            stopped: true,
+        };
+    }
+    let mut others = s.same;
+    if same {
+        if others < u64::MAX {
+            others += 1;
+        }
+    }
+    State {
+        window,
+        have: 0,
+        messages: s.messages + 1,
+        same: others,
+        stopped: false,
+    }
+}
+
+fn halted(s: State) -> State {
+    let window = s.window;
+    State {
+        window,
+        have: s.have,
+        messages: s.messages,
+        same: s.same,
+        stopped: true,
+    }
+}
+
+// One byte more.
+fn fed(s: State, b: u8) -> State {
+    let mut window = s.window;
+    let have = s.have;
+    if have >= 52 {
+        return halted(s);
+    }
+    window[have] = b;
+    let t = State {
+        window,
+        have: have + 1,
+        messages: s.messages,
+        same: s.same,
+        stopped: false,
+    };
+    let r = reader::parse_message(&window[..have + 1]);
+    match r {
+        Window::Message(m, n) => counted(t, m, n),
+        Window::Incomplete => t,
+        Window::Refused(_, _) => halted(t),
+    }
+}
+
+fn block(s: State, bytes: &[u8]) -> State {
+    let mut state = s;
+    let mut i = 0;
+    while i < bytes.len() {
+        let next = fed(state, bytes[i]);
+        state = next;
+        if state.stopped {
+            return state;
+        }
+        i += 1;
+    }
+    state
+}
+
+// One read.
+fn read_some(s: State) -> State {
+    let mut buf = [0u8; 4096];
+    let got = libc::read(STDIN_FILENO, &mut buf);
+    if got <= 0 {
+        return halted(s);
+    }
+    let n = io::count(got, &buf);
+    block(s, &buf[..n])
+}
+
+fn read_all() -> State {
+    let mut state = State {
+        window: [0u8; 52],
+        have: 0,
+        messages: 0,
+        same: 0,
+        stopped: false,
+    };
+    let mut turns = u64::MAX;
+    while turns > 0 {
+        let next = read_some(state);
+        state = next;
+        if state.stopped {
+            return state;
+        }
+        turns -= 1;
+    }
+    state
+}
+
+fn main() {
+    let s = read_all();
+    io::write_all(STDOUT_FILENO, b"messages ");
+    io::print_decimal(STDOUT_FILENO, s.messages);
+    io::write_all(STDOUT_FILENO, b" same ");
+    io::print_decimal(STDOUT_FILENO, s.same);
+    io::write_all(STDOUT_FILENO, b" left ");
+    io::print_decimal(STDOUT_FILENO, s.have as u64);
+    io::write_all(STDOUT_FILENO, b"\n");
+}

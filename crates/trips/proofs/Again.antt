@@ -1,0 +1,188 @@
+-- Writing what was read gives the consumed bytes, unless the length differed, H's reserved byte was no space or the ETP flag was M.
+-- Assumes nothing.
+use mathlib.Core.Path.{_≡_, refl, sym, ap, _∙_, subst}
+use mathlib.Core.List.{List, [], _∷_, _++_, append-assoc}
+use mathlib.Core.Bool.{Bool, true, false, cond}
+use mathlib.Core.Logic.{⊎-elim}
+use native.Mathlib.Omega.{arith}
+use Prim.Native.Nat.{ℕ, _+_, _^_, _≤_, _<_}
+use lib.Dec.{eqb}
+use lib.ListN.{length, getD, drop, take}
+use lib.Seq.{drop-cons}
+use borrow.Author.Tests.{ne-eqb}
+use Rattle.format.specs.Ascii.{'␣', 'H', 'M', 'R', 'Y'}
+use Rattle.format.specs.Layout.{time, etp, skip, widths, be, part, judge, Answer, accepted, incomplete, refuses}
+use Rattle.format.specs.Rows.{rows, Found, found, none, find, under, header, sizeIn, sizeOf, bodyOf, window}
+use Rattle.format.proofs.Tests.{le-or-lt}
+use Rattle.format.proofs.Bytes.{Bytes, be-below, be-one, part-split}
+use Rattle.format.proofs.Fields.{field-judged, field-num}
+use Rattle.format.proofs.Runs.{Reads, end, _⨾_}
+use Rattle.format.proofs.Windows.{pre, window-there, window-cut}
+use Rattle.laws.proofs.Rows.{all-read}
+use Rattle.laws.proofs.Window.{window-covers}
+use Rattle.pen.specs.Encode.{digits, write, fieldsIn, layout}
+use Rattle.records.specs.declared.Mpid.{Mpid}
+use Rattle.records.specs.declared.Mpid.the-variants.{Absent, Present}
+use Rattle.records.specs.declared.AddOrder.{AddOrder}
+use Rattle.records.specs.declared.Body.{Body}
+use Rattle.records.specs.declared.Body.the-variants as Body·
+use Rattle.records.specs.declared.Message.{Message}
+use Rattle.records.specs.Values.{orderValues, values}
+use Rattle.reader.specs.declared.Window.{Window}
+use Rattle.reader.specs.declared.Window.the-variants.{Message as Accepted}
+use Rattle.reader.specs.Window.{messageValues, windowM}
+use Rattle.writer.specs.declared.Written.{Written}
+use Rattle.writer.specs.declared.Written.the-variants.{Done, Refused}
+use Rattle.writer.specs.Writing.{tagOf, fieldsOf, textsOf, intraday, headOf, encode, writtenOf, after}
+use Rattle.writer.proofs.Says.{body-size, says-done}
+use Rattle.trips.specs.Exceptions.{Plain}
+use Rattle.trips.proofs.Fields.{codesFine, tidy, tidyRow, digits-be, took-row, Clean, clean-row}
+use Rattle.trips.proofs.Legal.{no-intraday}
+
+-- an accepted message, field by field
+record Opened (s : List ℕ) (m : Message) : Type 0 where
+  pub long : 13 ≤ length s
+  pub tag : m .tag ≡ getD s 2 0
+  pub locate : m .«stock_locate» ≡ be (part s 3 2)
+  pub tracking : m .«tracking_number» ≡ be (part s 5 2)
+  pub stamp : m .timestamp ≡ be (part s 7 6)
+  pub agrees : m .tag ≡ tagOf (m .body)
+  pub fields : Reads s (layout (tagOf (m .body))) 13 (fieldsOf (m .body))
+
+under-read : (f : Found) (s : List ℕ) (t : ℕ) (ws : List ℕ) (n : ℕ) → under f s 13 (t ∷ []) ≡ accepted ws n
+    → (hs : List ℕ) × Reads s (fieldsIn f) 13 hs × (t ∷ hs ≡ ws)
+under-read (found r) s t ws n e =
+    let a = all-read (r .body) s 13 (t ∷ []) accepted ws n e in
+    (a .0, a .1, cc (a .2))
+under-read none s t ws n e = let z : _≡_ {A = ℕ} 0 1 = cc in absurd (omega arith)
+
+body-read : (t : ℕ) (s ws : List ℕ) (n : ℕ) → bodyOf t s ≡ accepted ws n → (hs : List ℕ) × Reads s (layout t) 13 hs × (t ∷ hs ≡ ws)
+unfolding bodyOf layout
+body-read t s ws n e = under-read (find rows t) s t ws n e
+
+pre-accepted : (acc : List ℕ) (a : Answer) (vs : List ℕ) (n : ℕ) → pre acc a ≡ accepted vs n → (ws : List ℕ) × (a ≡ accepted ws n) × (acc ++ ws ≡ vs)
+pre-accepted acc (accepted ws m) vs n e = let q : m ≡ n = cc in (ws, ap (accepted ws) q, cc)
+pre-accepted acc incomplete vs n e = let z : _≡_ {A = ℕ} 0 1 = cc in absurd (omega arith)
+pre-accepted acc (refuses m p) vs n e = let z : _≡_ {A = ℕ} 0 1 = cc in absurd (omega arith)
+
+opened : (s : List ℕ) (m : Message) (n : ℕ) → window s ≡ accepted (messageValues m) n → Opened s m
+opened s m n e =
+    ⊎-elim
+    (λ l.
+    let t : ℕ = getD s 2 0 in
+    let h : List ℕ = t ∷ be (part s 3 2) ∷ be (part s 5 2) ∷ be (part s 7 6) ∷ [] in
+    let p = pre-accepted h (bodyOf t s) (messageValues m) n (sym (window-there s l) ∙ e) in
+    let d = body-read t s (p .0) n (p .1) in
+    let qw : p .0 ≡ values (m .body) = ap (drop 4) (p .2) in
+    let qv : t ∷ d .0 ≡ values (m .body) = d .2 ∙ qw in
+    let qt : t ≡ tagOf (m .body) = ap (λ vs. getD vs 0 0) qv in
+    record {
+      long = l;
+      tag = sym (ap (λ vs. getD vs 0 0) (p .2));
+      locate = sym (ap (λ vs. getD vs 1 0) (p .2));
+      tracking = sym (ap (λ vs. getD vs 2 0) (p .2));
+      stamp = sym (ap (λ vs. getD vs 3 0) (p .2));
+      agrees = sym (ap (λ vs. getD vs 0 0) (p .2)) ∙ qt;
+      fields = subst (λ k. Reads s (layout k) 13 (fieldsOf (m .body))) qt (subst (Reads s (layout t) 13) (ap (drop 1) qv) (d .1));
+    })
+    (λ l. let z : _≡_ {A = ℕ} 0 1 = cc (window-cut s l) in absurd (omega arith))
+    (le-or-lt 13 (length s))
+
+-- the header's fields from the tag on
+head-reads : (s : List ℕ) → 13 ≤ length s → Reads s (drop 1 header) 2 (getD s 2 0 ∷ be (part s 3 2) ∷ be (part s 5 2) ∷ be (part s 7 6) ∷ [])
+unfolding judge
+head-reads s h =
+    sym (field-num 1 s 2 (omega arith) (sym (be-one s 2 (omega arith))))
+    ⨾ sym (field-num 2 s 3 (omega arith) refl)
+    ⨾ sym (field-num 2 s 5 (omega arith) refl)
+    ⨾ field-judged time s 7 (omega arith)
+    ⨾ end
+
+head-bytes : (s : List ℕ) (m : Message) → Bytes s → Opened s m → write (drop 1 header) (drop 1 (headOf m)) ≡ part s 2 11
+head-bytes s m b o =
+    ap (λ v. write (drop 1 header) (v ∷ m .«stock_locate» ∷ m .«tracking_number» ∷ m .timestamp ∷ [])) (o .tag)
+    ∙ ap (λ v. write (drop 1 header) (getD s 2 0 ∷ v ∷ m .«tracking_number» ∷ m .timestamp ∷ [])) (o .locate)
+    ∙ ap (λ v. write (drop 1 header) (getD s 2 0 ∷ be (part s 3 2) ∷ v ∷ m .timestamp ∷ [])) (o .tracking)
+    ∙ ap (λ v. write (drop 1 header) (getD s 2 0 ∷ be (part s 3 2) ∷ be (part s 5 2) ∷ v ∷ [])) (o .stamp)
+    ∙ took-row (head-reads s (o .long)) b .0
+    ∙ clean-row (drop 1 header) s 2 (refl, (refl, (refl, (refl, tt))))
+
+-- what was read is written where the buffer holds it, as the size and the consumed bytes behind the length, tidied
+pub written-again : (s : List ℕ) (m : Message) (n room : ℕ) → Bytes s → windowM (Accepted m n) ≡ window s → n ≤ room
+    → (writtenOf m room ≡ Done n) × (encode m ≡ digits 2 (sizeOf (m .tag)) ++ (part s 2 11 ++ tidyRow (layout (m .tag)) s 13))
+unfolding encode textsOf
+written-again s m n room b e l =
+    let o = opened s m n (sym e) in
+    let c : n ≡ 2 + sizeOf (m .tag) = window-covers s (messageValues m) n (sym e) .0 in
+    let t = took-row (o .fields) b in
+    let y : be (part s 7 6) < 256 ^ 6 = be-below s 7 6 b (omega (arith, o .long)) in
+    let k : write (layout (m .tag)) (fieldsOf (m .body)) ≡ tidyRow (layout (m .tag)) s 13 = rw (o .agrees) (t .0) in (
+      sym (says-done m room (o .agrees) (omega (arith, o .stamp)) (t .1) (no-intraday (m .body) (t .2)) (omega arith)) ∙ ap Done (sym c),
+      append-assoc (digits 2 (sizeOf (m .tag))) (write (drop 1 header) (drop 1 (headOf m))) (write (layout (m .tag)) (fieldsOf (m .body)))
+          ∙ ap (λ xs. digits 2 (sizeOf (m .tag)) ++ (xs ++ write (layout (m .tag)) (fieldsOf (m .body)))) (head-bytes s m b o)
+          ∙ ap (λ xs. digits 2 (sizeOf (m .tag)) ++ (part s 2 11 ++ xs)) k,
+    )
+
+-- only H has a byte that is not kept, at 22, and only R an ETP flag, at 35
+order-clean : (a : AddOrder) (p : Mpid) (s : List ℕ) → Clean (layout (getD (orderValues a p) 0 0)) s 13
+unfolding layout
+order-clean a Absent s = (refl, (refl, (refl, (refl, (refl, tt)))))
+order-clean a (Present v) s = (refl, (refl, (refl, (refl, (refl, (refl, tt))))))
+
+body-clean : (b : Body) (s : List ℕ) → (tagOf b ≡ 'H' → tidy skip (part s 22 1) ≡ part s 22 1) → (tagOf b ≡ 'R' → tidy etp (part s 35 1) ≡ part s 35 1)
+    → Clean (layout (tagOf b)) s 13
+unfolding layout
+body-clean (Body·.AddOrder x) s reserved flag = order-clean x (x .mpid) s
+body-clean (Body·.Breach x) s reserved flag = (refl, tt)
+body-clean (Body·.BrokenTrade match-number) s reserved flag = (refl, tt)
+body-clean (Body·.CrossTrade x) s reserved flag = (refl, (refl, (refl, (refl, (refl, tt)))))
+body-clean (Body·.DeleteOrder reference) s reserved flag = (refl, tt)
+body-clean (Body·.Imbalance x) s reserved flag = (refl, (refl, (refl, (refl, (refl, (refl, (refl, (refl, (refl, tt)))))))))
+body-clean (Body·.IpoQuotingPeriod x) s reserved flag = (refl, (refl, (refl, (refl, tt))))
+body-clean (Body·.LULDAuctionCollar stock ref-price upper-price lower-price extension) s reserved flag = (refl, (refl, (refl, (refl, (refl, tt)))))
+body-clean (Body·.MwcbDeclineLevel level1 level2 level3) s reserved flag = (refl, (refl, (refl, tt)))
+body-clean (Body·.NonCrossTrade x) s reserved flag = (refl, (refl, (refl, (refl, (refl, (refl, tt))))))
+body-clean (Body·.OrderCancelled reference cancelled) s reserved flag = (refl, (refl, tt))
+body-clean (Body·.OrderExecuted reference executed match-number) s reserved flag = (refl, (refl, (refl, tt)))
+body-clean (Body·.OrderExecutedWithPrice reference executed match-number printable price) s reserved flag = (refl, (refl, (refl, (refl, (refl, tt)))))
+body-clean (Body·.ParticipantPosition x) s reserved flag = (refl, (refl, (refl, (refl, (refl, tt)))))
+body-clean (Body·.RegShoRestriction stock action) s reserved flag = (refl, (refl, tt))
+body-clean (Body·.ReplaceOrder x) s reserved flag = (refl, (refl, (refl, (refl, tt))))
+body-clean (Body·.RetailPriceImprovementIndicator x) s reserved flag = (refl, (refl, tt))
+body-clean (Body·.StockDirectory x) s reserved flag = (refl, (refl, (refl, (refl, (refl, (refl, (refl, (refl, (refl, (refl, (refl, (flag refl, (refl, (refl, tt))))))))))))))
+body-clean (Body·.SystemEvent event) s reserved flag = (refl, tt)
+body-clean (Body·.TradingAction stock trading-state reason) s reserved flag = (refl, (refl, (reserved refl, (refl, tt))))
+
+one-byte : (s : List ℕ) (at : ℕ) → at < length s → part s at 1 ≡ getD s at 0 ∷ []
+one-byte s at l = rw (drop-cons s at 0)
+
+space-clean : (s : List ℕ) (at : ℕ) → at < length s → getD s at 0 ≡ '␣' → tidy skip (part s at 1) ≡ part s at 1
+space-clean s at l q = ap (λ x. x ∷ []) (sym q) ∙ sym (one-byte s at l)
+
+flag-clean : (s : List ℕ) (at : ℕ) → at < length s → (getD s at 0 ≡ 'M' → ⊥) → tidy etp (part s at 1) ≡ part s at 1
+flag-clean s at l q = ap (λ x. cond (eqb x 'M') ('Y' ∷ []) (part s at 1)) (be-one s at l) ∙ ap (λ x. cond x ('Y' ∷ []) (part s at 1)) (ne-eqb _ _ q)
+
+-- writing what was read gives the consumed bytes, and later bytes stay, unless the length differed, H's reserved byte was no space or ETP was M
+pub written-back : (s : List ℕ) (m : Message) (n : ℕ) (t : List ℕ) → Bytes s → windowM (Accepted m n) ≡ window s → n ≤ length t
+    → Plain s m → (writtenOf m (length t) ≡ Done n) × (after (Done n) m t ≡ take n s ++ drop n t)
+unfolding after sizeOf
+written-back s m n t b e l f =
+    let o = opened s m n (sym e) in
+    let c = window-covers s (messageValues m) n (sym e) in
+    let w = written-again s m n (length t) b e l in
+    let h : tagOf (m .body) ≡ 'H' → tidy skip (part s 22 1) ≡ part s 22 1 =
+    λ q. space-clean s 22 (omega (arith, c .0, c .1, ap sizeOf (o .agrees ∙ q))) (f .1 (o .agrees ∙ q)) in
+    let r : tagOf (m .body) ≡ 'R' → tidy etp (part s 35 1) ≡ part s 35 1 =
+    λ q. flag-clean s 35 (omega (arith, c .0, c .1, ap sizeOf (o .agrees ∙ q))) (f .2 (o .agrees ∙ q)) in
+    let g : Clean (layout (m .tag)) s 13 = subst (λ k. Clean (layout k) s 13) (sym (o .agrees)) (body-clean (m .body) s h r) in
+    let z : ℕ = widths (layout (m .tag)) in
+    let y : sizeOf (m .tag) ≡ 11 + z = ap sizeOf (o .agrees) ∙ body-size (m .body) ∙ ap (λ k. 11 + widths (layout k)) (sym (o .agrees)) in
+    let x : 2 + (11 + z) ≡ n = omega (arith, c .0) in
+    let a : digits 2 (sizeOf (m .tag)) ≡ part s 0 2 = ap (digits 2) (sym (f .0)) ∙ digits-be s 0 2 b (omega (arith, o .long)) in
+    let p : part s 2 (11 + z) ≡ part s 2 11 ++ part s 13 z = part-split s 2 11 z in (
+      w .0,
+      ap (λ xs. xs ++ drop n t)
+          (w .1 ∙ ap (λ xs. xs ++ (part s 2 11 ++ tidyRow (layout (m .tag)) s 13)) a
+          ∙ ap (λ xs. part s 0 2 ++ (part s 2 11 ++ xs)) (clean-row (layout (m .tag)) s 13 g)
+          ∙ ap (λ xs. part s 0 2 ++ xs) (sym p) ∙ sym (part-split s 0 2 (11 + z)) ∙ ap (λ k. take k s) x),
+    )

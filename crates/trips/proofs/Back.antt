@@ -1,0 +1,105 @@
+-- Reading what was written gives the record, and consumes what was written.
+-- Assumes nothing.
+use mathlib.Core.Path.{_≡_, refl, sym, ap, _∙_, subst}
+use mathlib.Core.List.{List, [], _∷_, _++_, append-assoc}
+use mathlib.Core.Bool.{Bool, true, false, cond}
+use native.Mathlib.Omega.{arith}
+use Prim.Native.Nat.{ℕ, _+_, _^_, _≤_, _<_}
+use lib.Dec.{eqb, ltb, leb}
+use lib.ListN.{length, drop}
+use borrow.Author.Tests.{eqb-true}
+use Rattle.format.specs.Layout.{widths, accepted, read}
+use Rattle.format.specs.Rows.{rows, Found, found, none, find, sizeIn, sizeOf, under, header, message, window}
+use Rattle.format.proofs.Runs.{Reads, reads}
+use Rattle.pen.specs.Encode.{write, fieldsIn, layout, textsFine, Sized}
+use Rattle.pen.proofs.Puts.{length-write}
+use Rattle.records.specs.declared.Message.{Message}
+use Rattle.records.specs.Values.{values}
+use Rattle.reader.specs.declared.Window.{Window}
+use Rattle.reader.specs.declared.Window.the-variants.{Message as Accepted}
+use Rattle.reader.specs.Window.{messageValues, windowM, windowOf}
+use Rattle.reader.proofs.Back.{exactly}
+use Rattle.writer.specs.declared.Written.{Written}
+use Rattle.writer.specs.declared.Written.the-variants.{Done, Refused}
+use Rattle.writer.specs.Writing.{tagOf, fieldsOf, textsOf, intraday, headOf, encode, writtenOf, after, Fits}
+use Rattle.writer.proofs.Says.{body-size}
+use Rattle.trips.proofs.Fields.{codesFine, reads-write}
+use Rattle.trips.proofs.Legal.{codes, whole}
+
+-- what an answer Done says
+record Accepts (m : Message) (n : ℕ) : Type 0 where
+  pub agrees : m .tag ≡ tagOf (m .body)
+  pub texts : textsOf (values (m .body)) ≡ true
+  pub crosses : intraday (values (m .body)) ≡ false
+  pub size : 2 + sizeOf (m .tag) ≡ n
+
+passed : (a b c d e : Bool) (k n : ℕ)
+    → cond a (cond b (cond c (cond d (Refused 43) (cond e (Done k) (Refused 44))) (Refused 42)) (Refused 41)) (Refused 40) ≡ Done n
+    → (a ≡ true) × (c ≡ true) × (d ≡ false) × (k ≡ n)
+passed true true true false true k n q = (refl, refl, refl, cc)
+passed true true true false false k n q = let z : _≡_ {A = ℕ} 0 1 = cc in absurd (omega arith)
+passed true true true true e k n q = let z : _≡_ {A = ℕ} 0 1 = cc in absurd (omega arith)
+passed true true false d e k n q = let z : _≡_ {A = ℕ} 0 1 = cc in absurd (omega arith)
+passed true false c d e k n q = let z : _≡_ {A = ℕ} 0 1 = cc in absurd (omega arith)
+passed false b c d e k n q = let z : _≡_ {A = ℕ} 0 1 = cc in absurd (omega arith)
+
+accepts : (m : Message) (room n : ℕ) → writtenOf m room ≡ Done n → Accepts m n
+unfolding writtenOf
+accepts m room n e =
+    let p = passed (eqb (m .tag) (tagOf (m .body))) (ltb (m .timestamp) (2 ^ 48)) (textsOf (values (m .body))) (intraday (values (m .body)))
+    (leb (2 + sizeOf (m .tag)) room) (2 + sizeOf (m .tag)) n e in
+    record {
+      agrees = eqb-true _ _ (p .0);
+      texts = p .1;
+      crosses = p .2;
+      size = p .3;
+    }
+
+-- a tag that has a size has a row
+under-known : (f : Found) (s : List ℕ) (at : ℕ) (vs : List ℕ) → sizeIn f ≡ 11 + widths (fieldsIn f) → under f s at vs ≡ read (fieldsIn f) s at vs accepted
+under-known (found r) s at vs h = refl
+under-known none s at vs h = absurd (omega arith)
+
+pub body-under : (t : ℕ) (s : List ℕ) (at : ℕ) (vs : List ℕ) → sizeOf t ≡ 11 + widths (layout t) → under (find rows t) s at vs ≡ read (layout t) s at vs accepted
+unfolding layout sizeOf
+body-under t s at vs h = under-known (find rows t) s at vs h
+
+module _ (m : Message) (n : ℕ) (a : Accepts m n) (h : Sized header (headOf m)) (b : Sized (layout (tagOf (m .body))) (fieldsOf (m .body))) where
+  reads-header : (q : List ℕ) → Reads (write header (headOf m) ++ q) header 0 (headOf m)
+  reads-header q = reads-write header (headOf m) refl h refl refl [] q
+
+  reads-body : (q : List ℕ) → Reads (write header (headOf m) ++ (write (layout (tagOf (m .body))) (fieldsOf (m .body)) ++ q)) (layout (tagOf (m .body))) 13 (fieldsOf (m .body))
+  unfolding textsOf
+  reads-body q =
+      let r = reads-write (layout (tagOf (m .body))) (fieldsOf (m .body)) (whole (m .body) .1) b (a .texts) (codes (m .body) (a .crosses)) (write header (headOf m)) q in
+      subst
+      (λ x. Reads (write header (headOf m) ++ (write (layout (tagOf (m .body))) (fieldsOf (m .body)) ++ q)) (layout (tagOf (m .body))) x (fieldsOf (m .body)))
+      (length-write header (headOf m)) r
+
+  window-encode : (q : List ℕ) → window (encode m ++ q) ≡ accepted (messageValues m) n
+  unfolding encode window
+  window-encode q =
+      let t : ℕ = tagOf (m .body) in
+      let d : List ℕ = write (layout t) (fieldsOf (m .body)) in
+      let s : List ℕ = write header (headOf m) ++ (d ++ q) in
+      let v : List ℕ = m .tag ∷ m .«stock_locate» ∷ m .«tracking_number» ∷ m .timestamp ∷ [] in
+      let e : (write header (headOf m) ++ write (layout (m .tag)) (fieldsOf (m .body))) ++ q ≡ s =
+      append-assoc (write header (headOf m)) (write (layout (m .tag)) (fieldsOf (m .body))) q
+      ∙ ap (λ k. write header (headOf m) ++ (write (layout k) (fieldsOf (m .body)) ++ q)) (a .agrees) in
+      let g : read header s 0 [] (message s) ≡ message s (headOf m) 13 = reads (reads-header (d ++ q)) [] (message s) in
+      let k : message s (headOf m) 13 ≡ under (find rows t) s 13 (v ++ (t ∷ [])) = ap (λ k. under (find rows k) s 13 (v ++ (k ∷ []))) (a .agrees) in
+      let u : under (find rows t) s 13 (v ++ (t ∷ [])) ≡ read (layout t) s 13 (v ++ (t ∷ [])) accepted = body-under t s 13 (v ++ (t ∷ [])) (body-size (m .body)) in
+      let r : read (layout t) s 13 (v ++ (t ∷ [])) accepted ≡ accepted ((v ++ (t ∷ [])) ++ fieldsOf (m .body)) (13 + widths (layout t)) =
+      reads (reads-body q) (v ++ (t ∷ [])) accepted in
+      let w : (v ++ (t ∷ [])) ++ fieldsOf (m .body) ≡ v ++ values (m .body) = append-assoc v (t ∷ []) (fieldsOf (m .body)) ∙ ap (λ x. v ++ x) (whole (m .body) .0) in
+      let z : sizeOf (m .tag) ≡ 11 + widths (layout t) = ap sizeOf (a .agrees) ∙ body-size (m .body) in
+      let o : 13 + widths (layout t) ≡ n = omega (arith, a .size) in
+      ap (λ x. read header x 0 [] (message x)) e ∙ g ∙ k ∙ u ∙ r ∙ ap (λ x. accepted x (13 + widths (layout t))) w ∙ ap (accepted (v ++ values (m .body))) o
+
+-- reading what was written gives the record, and consumes 2 + size: the written bytes
+pub read-back : (m : Message) (s : List ℕ) (n : ℕ) → writtenOf m (length s) ≡ Done n → Fits (Done n) m
+    → (windowOf (after (Done n) m s) ≡ Accepted m n) × (n ≡ 2 + sizeOf (m .tag))
+unfolding after Fits
+read-back m s n e f =
+    let a = accepts m (length s) n e in
+    (sym (exactly (encode m ++ drop n s) (Accepted m n) (sym (window-encode m n a (f .0) (f .1) (drop n s)))), sym (a .size))

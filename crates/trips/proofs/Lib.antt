@@ -1,0 +1,5 @@
+pub mod Fields
+pub mod Legal
+pub mod Back
+pub mod Again
+pub mod Calls

@@ -1,0 +1,152 @@
+-- The cases of the writer's answer, over plain values; the laws of bodies that the writer cites.
+-- Assumes nothing.
+use mathlib.Core.Path.{_≡_, refl, sym, ap, _∙_, subst}
+use mathlib.Core.List.{List, [], _∷_, _++_}
+use mathlib.Core.Bool.{Bool, true, false, _&&_}
+use native.Mathlib.Omega.{arith}
+use Prim.Native.Nat.{ℕ, _+_, _^_, _≤_, _<_}
+use lib.ListN.{length, length-append, getD, drop}
+use lib.Seq.{sets, sets-eq, length-sets}
+use borrow.Author.Tests.{eq-eqb, ne-eqb, lt-ltb, le-ltb, le-leb, lt-leb}
+use Rattle.format.specs.Utf8.{wellFormed}
+use Rattle.format.specs.Layout.{widths}
+use Rattle.format.specs.Rows.{sizeOf, header}
+use Rattle.pen.specs.Encode.{digits, write, layout, textsFine, Sized, putRow, PutRow, PutBody}
+use Rattle.pen.proofs.Digits.{sets-append}
+use Rattle.pen.proofs.Puts.{length-write, row-fits}
+use Rattle.records.specs.declared.Mpid.{Mpid}
+use Rattle.records.specs.declared.Mpid.the-variants.{Absent, Present}
+use Rattle.records.specs.declared.AddOrder.{AddOrder}
+use Rattle.records.specs.declared.Body.{Body}
+use Rattle.records.specs.declared.Body.the-variants as Body·
+use Rattle.records.specs.declared.Message.{Message}
+use Rattle.records.specs.Values.{orderValues, values}
+use Rattle.writer.specs.declared.Checked.{Checked}
+use Rattle.writer.specs.declared.Written.{Written}
+use Rattle.writer.specs.declared.Written.the-variants.{Done, Refused}
+use Rattle.writer.specs.Writing.{tagOf, fieldsOf, textsOf, intraday, checkedOf, mpidTag, mpidFine, headOf, encode, writtenOf, after, Fits}
+
+and-true : (b : Bool) → b && true ≡ b
+and-true true = refl
+and-true false = refl
+
+-- the parts of what was looked at
+module _ (b : Body) {k : Checked} (e : k ≡ checkedOf (values b)) where
+  pub told-tag : k .tag ≡ tagOf b
+  told-tag = ap (λ (x : Checked). x .tag) e
+
+  pub told-texts : (v : Bool) → k .texts ≡ v → textsOf (values b) ≡ v
+  told-texts v q = sym (ap (λ (x : Checked). x .texts) e) ∙ q
+
+  pub told-intraday : (v : Bool) → k .intraday ≡ v → intraday (values b) ≡ v
+  told-intraday v q = sym (ap (λ (x : Checked). x .intraday) e) ∙ q
+
+-- what is looked at before a body is written, by how many texts it has
+abbrev looked : ℕ → Bool → Bool → Checked
+looked t x i = record { tag = t; texts = x; intraday = i }
+
+pub one-text : (t w v : ℕ) {r i j : Bool} {k : Checked} → k ≡ looked t (wellFormed (digits w v) && true) i → r ≡ wellFormed (digits w v) → j ≡ i → looked t r j ≡ k
+one-text t w v {r} {i} q e f = ap (λ j. looked t r j) f ∙ ap (λ x. looked t x i) (e ∙ sym (and-true (wellFormed (digits w v)))) ∙ sym q
+
+pub two-texts : (t w v x y : ℕ) {r a b : Bool} {k : Checked} → k ≡ looked t (wellFormed (digits w v) && (wellFormed (digits x y) && true)) false
+    → a ≡ wellFormed (digits w v) → b ≡ wellFormed (digits x y) → r ≡ a && b → looked t r false ≡ k
+two-texts t w v x y {b = b} q e f g =
+    ap (λ x. looked t x false) (g ∙ ap (λ a. a && b) e ∙ ap (λ b. wellFormed (digits w v) && b) (f ∙ sym (and-true (wellFormed (digits x y))))) ∙ sym q
+
+pub order-checked : (a : AddOrder) (p : Mpid) {t : ℕ} {r x y : Bool} → t ≡ mpidTag p → x ≡ wellFormed (digits 8 (a .stock)) → y ≡ mpidFine p → r ≡ x && y
+    → looked t r false ≡ checkedOf (orderValues a p)
+unfolding textsOf intraday layout
+order-checked a Absent {r = r} {y = y} h e f g =
+    ap (λ t. looked t r false) h ∙ ap (λ x. looked (mpidTag Absent) x false) (g ∙ ap (λ x. x && y) e ∙ ap (λ y. wellFormed (digits 8 (a .stock)) && y) f)
+order-checked a (Present v) {r = r} {y = y} h e f g =
+    ap (λ t. looked t r false) h
+    ∙ ap (λ x. looked (mpidTag (Present v)) x false) (g ∙ ap (λ x. x && y) e ∙ ap (λ y. wellFormed (digits 8 (a .stock)) && y) (f ∙ sym (and-true (wellFormed (digits 4 v)))))
+
+-- a body's size is that of its fields, counted from the tag on
+order-size : (a : AddOrder) (p : Mpid) → sizeOf (getD (orderValues a p) 0 0) ≡ 11 + widths (layout (getD (orderValues a p) 0 0))
+unfolding sizeOf layout
+order-size a Absent = refl
+order-size a (Present v) = refl
+
+pub body-size : (b : Body) → sizeOf (tagOf b) ≡ 11 + widths (layout (tagOf b))
+unfolding sizeOf layout
+body-size (Body·.AddOrder x) = order-size x (x .mpid)
+body-size (Body·.Breach x) = refl
+body-size (Body·.BrokenTrade match-number) = refl
+body-size (Body·.CrossTrade x) = refl
+body-size (Body·.DeleteOrder reference) = refl
+body-size (Body·.Imbalance x) = refl
+body-size (Body·.IpoQuotingPeriod x) = refl
+body-size (Body·.LULDAuctionCollar stock ref-price upper-price lower-price extension) = refl
+body-size (Body·.MwcbDeclineLevel level1 level2 level3) = refl
+body-size (Body·.NonCrossTrade x) = refl
+body-size (Body·.OrderCancelled reference cancelled) = refl
+body-size (Body·.OrderExecuted reference executed match-number) = refl
+body-size (Body·.OrderExecutedWithPrice reference executed match-number printable price) = refl
+body-size (Body·.ParticipantPosition x) = refl
+body-size (Body·.RegShoRestriction stock action) = refl
+body-size (Body·.ReplaceOrder x) = refl
+body-size (Body·.RetailPriceImprovementIndicator x) = refl
+body-size (Body·.StockDirectory x) = refl
+body-size (Body·.SystemEvent event) = refl
+body-size (Body·.TradingAction stock trading-state reason) = refl
+
+pub body-is : (s : List ℕ) {b x : Body} {u : List ℕ} → b ≡ x → PutBody s (values x) u → PutBody s (values b) u
+body-is s {u = u} q e = subst (λ b. PutBody s (values b) u) (sym q) e
+
+-- the answers
+module _ (m : Message) (room : ℕ) where
+  pub says40 : (m .tag ≡ tagOf (m .body) → ⊥) → Refused 40 ≡ writtenOf m room
+  unfolding writtenOf
+  says40 h = rw (ne-eqb _ _ h)
+
+  module _ (t : m .tag ≡ tagOf (m .body)) where
+    pub says41 : 2 ^ 48 ≤ m .timestamp → Refused 41 ≡ writtenOf m room
+    unfolding writtenOf
+    says41 h = rw (eq-eqb _ _ t, le-ltb _ _ h)
+
+    module _ (h : m .timestamp < 2 ^ 48) where
+      pub says42 : textsOf (values (m .body)) ≡ false → Refused 42 ≡ writtenOf m room
+      unfolding writtenOf
+      says42 f = rw (eq-eqb _ _ t, lt-ltb _ _ h, f)
+
+      module _ (f : textsOf (values (m .body)) ≡ true) where
+        pub says43 : intraday (values (m .body)) ≡ true → Refused 43 ≡ writtenOf m room
+        unfolding writtenOf
+        says43 i = rw (eq-eqb _ _ t, lt-ltb _ _ h, f, i)
+
+        module _ (i : intraday (values (m .body)) ≡ false) where
+          pub says44 : room < 2 + sizeOf (m .tag) → Refused 44 ≡ writtenOf m room
+          unfolding writtenOf
+          says44 l = rw (eq-eqb _ _ t, lt-ltb _ _ h, f, i, lt-leb _ _ l)
+
+          pub says-done : 2 + sizeOf (m .tag) ≤ room → Done (2 + sizeOf (m .tag)) ≡ writtenOf m room
+          unfolding writtenOf
+          says-done l = rw (eq-eqb _ _ t, lt-ltb _ _ h, f, i, le-leb _ _ l)
+
+-- the header, then the body: the message, and later bytes stay
+pub length-encode : (m : Message) → m .tag ≡ tagOf (m .body) → length (encode m) ≡ 2 + sizeOf (m .tag)
+unfolding encode
+length-encode m t =
+    let z : sizeOf (m .tag) ≡ 11 + widths (layout (m .tag)) = rw t (body-size (m .body)) in
+    length-append (write header (headOf m)) (write (layout (m .tag)) (fieldsOf (m .body)))
+    ∙ ap (λ n. n + length (write (layout (m .tag)) (fieldsOf (m .body)))) (length-write header (headOf m))
+    ∙ ap (λ n. 13 + n) (length-write (layout (m .tag)) (fieldsOf (m .body))) ∙ omega arith
+
+pub all-put : (m : Message) (s : List ℕ) {t u : List ℕ} → m .tag ≡ tagOf (m .body) → 2 + sizeOf (m .tag) ≤ length s
+    → t ≡ putRow s 0 header (headOf m) → u ≡ putRow t 13 (layout (tagOf (m .body))) (fieldsOf (m .body)) → u ≡ encode m ++ drop (2 + sizeOf (m .tag)) s
+unfolding encode
+all-put m s {t} {u} q l e f =
+    let h : List ℕ = write header (headOf m) in
+    let b : List ℕ = write (layout (tagOf (m .body))) (fieldsOf (m .body)) in
+    let z : sizeOf (m .tag) ≡ 11 + widths (layout (tagOf (m .body))) = ap sizeOf q ∙ body-size (m .body) in
+    let y : t ≡ sets s 0 h = e ∙ row-fits s 0 header (headOf m) (omega arith) in
+    let k : length t ≡ length s = ap length y ∙ length-sets s 0 h in
+    let x : u ≡ sets t 13 b = f ∙ row-fits t 13 (layout (tagOf (m .body))) (fieldsOf (m .body)) (omega arith) in
+    let w : sets (sets s 0 h) (0 + length h) b ≡ sets s 0 (h ++ b) = sym (sets-append s 0 h b) in
+    let o : 0 + length h ≡ 13 = ap (λ n. 0 + n) (length-write header (headOf m)) in
+    let g : u ≡ sets s 0 (encode m) =
+    x ∙ ap (λ r. sets r 13 b) y ∙ ap (λ n. sets (sets s 0 h) n b) (sym o) ∙ w ∙ ap (λ n. sets s 0 (h ++ write (layout n) (fieldsOf (m .body)))) (sym q) in
+    let n : length (encode m) ≡ 2 + sizeOf (m .tag) = length-encode m q in
+    let k : 0 + length (encode m) ≡ 2 + sizeOf (m .tag) = omega arith in
+    g ∙ sets-eq (encode m) s 0 (omega arith) ∙ ap (λ i. encode m ++ drop i s) k
