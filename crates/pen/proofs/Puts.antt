@@ -2,7 +2,7 @@
 -- chain of its leaves' puts, field by field.
 -- Assumes nothing.
 use mathlib.Core.Path.{_≡_, refl, sym, ap, _∙_, subst}
-use mathlib.Core.List.{List, [], _∷_, _++_}
+use mathlib.Core.List.{List, [], _∷_}
 use mathlib.Core.Bool.{Bool, true, false, cond}
 use lib.Dec.{leb}
 use native.Mathlib.Omega.{arith}
@@ -10,7 +10,7 @@ use Prim.Native.Nat.{ℕ, _+_, _^_, _<_, _≤_}
 use lib.ListN.{length, length-append, getD, drop}
 use lib.Seq.{sets, length-sets}
 use Rattle.format.specs.Layout.{Kind, width, widths}
-use Rattle.pen.specs.Encode.{digits, valueOf, rest, write, Sized, putIn, putRow, layout, PutRow, PutBody}
+use Rattle.pen.specs.Encode.{digits, valueOf, rest, write, putIn, putRow, layout, PutRow, PutBody}
 use Rattle.pen.proofs.Digits.{length-digits, sets-append, put-fits}
 
 -- each field put at its place: the value itself, or a number that equals it

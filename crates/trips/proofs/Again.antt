@@ -2,7 +2,7 @@
 -- Assumes nothing.
 use mathlib.Core.Path.{_≡_, refl, sym, ap, _∙_, subst}
 use mathlib.Core.List.{List, [], _∷_, _++_, append-assoc}
-use mathlib.Core.Bool.{Bool, true, false, cond}
+use mathlib.Core.Bool.{cond}
 use mathlib.Core.Logic.{⊎-elim}
 use native.Mathlib.Omega.{arith}
 use Prim.Native.Nat.{ℕ, _+_, _^_, _≤_, _<_}
@@ -12,7 +12,7 @@ use lib.Seq.{drop-cons}
 use borrow.Author.Tests.{ne-eqb}
 use Rattle.format.specs.Ascii.{'␣', 'H', 'M', 'R', 'Y'}
 use Rattle.format.specs.Layout.{time, etp, skip, widths, be, part, judge, Answer, accepted, incomplete, refuses}
-use Rattle.format.specs.Rows.{rows, Found, found, none, find, under, header, sizeIn, sizeOf, bodyOf, window}
+use Rattle.format.specs.Rows.{rows, Found, found, none, find, under, header, sizeOf, bodyOf, window}
 use Rattle.format.proofs.Tests.{le-or-lt}
 use Rattle.format.proofs.Bytes.{Bytes, be-below, be-one, part-split}
 use Rattle.format.proofs.Fields.{field-judged, field-num}
@@ -28,15 +28,13 @@ use Rattle.records.specs.declared.Body.{Body}
 use Rattle.records.specs.declared.Body.the-variants as Body·
 use Rattle.records.specs.declared.Message.{Message}
 use Rattle.records.specs.Values.{orderValues, values}
-use Rattle.reader.specs.declared.Window.{Window}
 use Rattle.reader.specs.declared.Window.the-variants.{Message as Accepted}
 use Rattle.reader.specs.Window.{messageValues, windowM}
-use Rattle.writer.specs.declared.Written.{Written}
-use Rattle.writer.specs.declared.Written.the-variants.{Done, Refused}
-use Rattle.writer.specs.Writing.{tagOf, fieldsOf, textsOf, intraday, headOf, encode, writtenOf, after}
+use Rattle.writer.specs.declared.Written.the-variants.{Done}
+use Rattle.writer.specs.Writing.{tagOf, fieldsOf, textsOf, headOf, encode, writtenOf, after}
 use Rattle.writer.proofs.Says.{body-size, says-done}
 use Rattle.trips.specs.Exceptions.{Plain}
-use Rattle.trips.proofs.Fields.{codesFine, tidy, tidyRow, digits-be, took-row, Clean, clean-row}
+use Rattle.trips.proofs.Fields.{tidy, tidyRow, digits-be, took-row, Clean, clean-row}
 use Rattle.trips.proofs.Legal.{no-intraday}
 
 -- an accepted message, field by field

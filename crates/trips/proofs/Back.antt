@@ -4,26 +4,24 @@ use mathlib.Core.Path.{_≡_, refl, sym, ap, _∙_, subst}
 use mathlib.Core.List.{List, [], _∷_, _++_, append-assoc}
 use mathlib.Core.Bool.{Bool, true, false, cond}
 use native.Mathlib.Omega.{arith}
-use Prim.Native.Nat.{ℕ, _+_, _^_, _≤_, _<_}
+use Prim.Native.Nat.{ℕ, _+_, _^_}
 use lib.Dec.{eqb, ltb, leb}
 use lib.ListN.{length, drop}
 use borrow.Author.Tests.{eqb-true}
 use Rattle.format.specs.Layout.{widths, accepted, read}
 use Rattle.format.specs.Rows.{rows, Found, found, none, find, sizeIn, sizeOf, under, header, message, window}
 use Rattle.format.proofs.Runs.{Reads, reads}
-use Rattle.pen.specs.Encode.{write, fieldsIn, layout, textsFine, Sized}
+use Rattle.pen.specs.Encode.{write, fieldsIn, layout, Sized}
 use Rattle.pen.proofs.Puts.{length-write}
 use Rattle.records.specs.declared.Message.{Message}
 use Rattle.records.specs.Values.{values}
-use Rattle.reader.specs.declared.Window.{Window}
 use Rattle.reader.specs.declared.Window.the-variants.{Message as Accepted}
-use Rattle.reader.specs.Window.{messageValues, windowM, windowOf}
+use Rattle.reader.specs.Window.{messageValues, windowOf}
 use Rattle.reader.proofs.Back.{exactly}
-use Rattle.writer.specs.declared.Written.{Written}
 use Rattle.writer.specs.declared.Written.the-variants.{Done, Refused}
 use Rattle.writer.specs.Writing.{tagOf, fieldsOf, textsOf, intraday, headOf, encode, writtenOf, after, Fits}
 use Rattle.writer.proofs.Says.{body-size}
-use Rattle.trips.proofs.Fields.{codesFine, reads-write}
+use Rattle.trips.proofs.Fields.{reads-write}
 use Rattle.trips.proofs.Legal.{codes, whole}
 
 -- what an answer Done says

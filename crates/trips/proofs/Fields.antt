@@ -5,7 +5,7 @@ use mathlib.Core.List.{List, [], _∷_, _++_, append-assoc}
 use mathlib.Core.Bool.{Bool, true, false, cond, not, _&&_}
 use mathlib.Core.Logic.{⊎-elim}
 use Prim.Native.Nat.{ℕ, zero, suc, _+_, _*_, _^_, _/_, _%_, _≤_, _<_}
-use native.Mathlib.Nat.{pow-suc, add-zero}
+use native.Mathlib.Nat.{pow-suc}
 use native.Mathlib.Numerals.{add-one}
 use native.Mathlib.Omega.{arith}
 use lib.Dec.{eqb}
@@ -16,7 +16,7 @@ use Rattle.format.specs.Codes.{etpFlag, subtypes}
 use Rattle.format.specs.Utf8.{wellFormed}
 use Rattle.format.specs.Layout.{Kind, num, time, text, code, etp, subtype, skip, width, widths, beFrom, be, part, member, asYes, Verdict, fine, wrong, judge, got, short, placed, field}
 use Rattle.format.proofs.Tests.{le-or-lt}
-use Rattle.format.proofs.Bytes.{Bytes, part-more, be-more}
+use Rattle.format.proofs.Bytes.{Bytes, part-more}
 use Rattle.format.proofs.Fields.{field-judged, field-short}
 use Rattle.format.proofs.Runs.{Reads, end, _⨾_}
 use Rattle.pen.specs.Encode.{digits, kept, valueOf, rest, write, textFine, textsFine, Sized}

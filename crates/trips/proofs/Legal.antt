@@ -1,15 +1,15 @@
 -- The codes of every name are legal in its field; and so what the writer lets pass are bodies whose every field can be read back.
 -- Assumes nothing.
-use mathlib.Core.Path.{_≡_, refl, sym, ap, _∙_}
-use mathlib.Core.List.{List, [], _∷_, _++_}
+use mathlib.Core.Path.{_≡_, refl}
+use mathlib.Core.List.{List, [], _∷_}
 use mathlib.Core.Bool.{Bool, true, false, _&&_}
-use Prim.Native.Nat.{ℕ, _+_, _<_}
+use Prim.Native.Nat.{ℕ, _+_}
 use native.Mathlib.Omega.{arith}
 use lib.Dec.{eqb}
 use lib.ListN.{length, getD, drop}
 use Rattle.format.specs.Ascii.{'I'}
 use Rattle.format.specs.Codes.{side, yesNo, tradingState, direction, imbalanceCross, qualifier, makerMode, participantState, interest, cross, category, status, class, authenticity, flag, tier, event, level, action, etpFlag, subtypes}
-use Rattle.format.specs.Layout.{num, text, code, etp, member}
+use Rattle.format.specs.Layout.{etp, member}
 use Rattle.pen.specs.Encode.{layout}
 use Rattle.codes.specs.Names.{actionByte, authenticityByte, categoryByte, classByte, crossByte, directionByte, eventByte, flagByte, interestByte, levelByte, makerModeByte, participantStateByte, qualifierByte, sideByte, statusByte, subtypeByte, tierByte, tradingStateByte, yesNoByte}
 use Rattle.codes.specs.declared.EventCode.{EventCode}

@@ -1,7 +1,7 @@
 -- The cases of the writer's answer, over plain values; the laws of bodies that the writer cites.
 -- Assumes nothing.
 use mathlib.Core.Path.{_≡_, refl, sym, ap, _∙_, subst}
-use mathlib.Core.List.{List, [], _∷_, _++_}
+use mathlib.Core.List.{List, _++_}
 use mathlib.Core.Bool.{Bool, true, false, _&&_}
 use native.Mathlib.Omega.{arith}
 use Prim.Native.Nat.{ℕ, _+_, _^_, _≤_, _<_}
@@ -11,7 +11,7 @@ use borrow.Author.Tests.{eq-eqb, ne-eqb, lt-ltb, le-ltb, le-leb, lt-leb}
 use Rattle.format.specs.Utf8.{wellFormed}
 use Rattle.format.specs.Layout.{widths}
 use Rattle.format.specs.Rows.{sizeOf, header}
-use Rattle.pen.specs.Encode.{digits, write, layout, textsFine, Sized, putRow, PutRow, PutBody}
+use Rattle.pen.specs.Encode.{digits, write, layout, putRow, PutBody}
 use Rattle.pen.proofs.Digits.{sets-append}
 use Rattle.pen.proofs.Puts.{length-write, row-fits}
 use Rattle.records.specs.declared.Mpid.{Mpid}
@@ -22,9 +22,8 @@ use Rattle.records.specs.declared.Body.the-variants as Body·
 use Rattle.records.specs.declared.Message.{Message}
 use Rattle.records.specs.Values.{orderValues, values}
 use Rattle.writer.specs.declared.Checked.{Checked}
-use Rattle.writer.specs.declared.Written.{Written}
 use Rattle.writer.specs.declared.Written.the-variants.{Done, Refused}
-use Rattle.writer.specs.Writing.{tagOf, fieldsOf, textsOf, intraday, checkedOf, mpidTag, mpidFine, headOf, encode, writtenOf, after, Fits}
+use Rattle.writer.specs.Writing.{tagOf, fieldsOf, textsOf, intraday, checkedOf, mpidTag, mpidFine, headOf, encode, writtenOf}
 
 and-true : (b : Bool) → b && true ≡ b
 and-true true = refl

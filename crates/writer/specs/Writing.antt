@@ -2,7 +2,7 @@
 -- Assumes nothing.
 use Prim.Native.Nat.{ℕ, _+_, _^_}
 use mathlib.Core.List.{List, [], _∷_, _++_}
-use mathlib.Core.Bool.{Bool, true, false, cond, _&&_}
+use mathlib.Core.Bool.{Bool, true, cond, _&&_}
 use lib.Dec.{ltb, leb, eqb}
 use lib.ListN.{getD, drop}
 use Rattle.format.specs.Ascii.{'A', 'F', 'I'}

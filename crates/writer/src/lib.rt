@@ -298,22 +298,23 @@ pub fn write(m: Message, buf: &mut [u8]) -> Written
     if tag != own.tag {
         return Written::Refused(40);
     }
-    if 0x1000000000000 <= time {
+    let late = 0x1000000000000 <= time;
+    let garbled = !own.texts;
+    if late {
         return Written::Refused(41);
     }
-    if own.texts {
-        if own.intraday {
-            return Written::Refused(43);
-        }
-        let size = tables::size_of_tag(tag);
-        let n = 2 + size as usize;
-        if buf.len() < n {
-            return Written::Refused(44);
-        }
-        put_header(buf, size, tag, m.stock_locate, m.tracking_number, time);
-        put_body(buf, body);
-        Written::Done(n)
-    } else {
-        Written::Refused(42)
+    if garbled {
+        return Written::Refused(42);
     }
+    if own.intraday {
+        return Written::Refused(43);
+    }
+    let size = tables::size_of_tag(tag);
+    let n = 2 + size as usize;
+    if buf.len() < n {
+        return Written::Refused(44);
+    }
+    put_header(buf, size, tag, m.stock_locate, m.tracking_number, time);
+    put_body(buf, body);
+    Written::Done(n)
 }
