@@ -1,8 +1,8 @@
 // The leaves of the writer: big-endian numbers put into a buffer at a place, and whether a text is UTF-8. What the bytes are stands in
 // specs/Encode.
 //
-// A place is a u8, so that `place + width` cannot wrap; where a number does not fit, nothing is put, so that no caller can break a leaf. A test
-// a field costs less than it looks: under one test of the whole length the compiler drops it and joins the bytes to one store.
+// A place is a u8, so that `place + width` cannot wrap; where a number does not fit, nothing is put, so that no caller can break a
+// leaf.
 ghost use mathlib.Core.Path.{_≡_};
 ghost use Prim.Native.Nat.{_+_, _^_, _<_, _≤_};
 ghost use lib.ListN.{length};

@@ -1,6 +1,6 @@
-// Reads a recording from standard input, writes every message back and compares: a line for each, its tag and whether the bytes are the same, then
-// how many there were and how many were the same. It stops at the first refusal, and says so. Bytes are taken one by one: each strict prefix of a
-// message is incomplete, so the window is always one message.
+// Reads a recording from standard input, writes every message back and compares: a line for each, its tag and `same` or `other`; then how many there
+// were, how many were the same, and how many bytes of the window are left: of a message cut short, or of the first one that is refused, where it
+// stops. Bytes are taken one by one: each strict prefix of a message is incomplete, so the window is always one message.
 use libc::STDIN_FILENO;
 use libc::STDOUT_FILENO;
 use reader::Window;
@@ -64,17 +64,17 @@ fn counted(s: State, m: Message, n: usize) -> State {
             stopped: true,
         };
     }
-    let mut others = s.same;
+    let mut alike = s.same;
     if same {
-        if others < u64::MAX {
-            others += 1;
+        if alike < u64::MAX {
+            alike += 1;
         }
     }
     State {
         window,
         have: 0,
         messages: s.messages + 1,
-        same: others,
+        same: alike,
         stopped: false,
     }
 }
