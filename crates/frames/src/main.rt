@@ -3,6 +3,8 @@
 ghost use Prim.Native.Nat.{_≤_, _<_};
 ghost use mathlib.Core.List.{[], _∷_};
 ghost use lib.ListN.{length};
+ghost use Rattle.text.specs.Decimal.{Wrote};
+ghost use Rattle.lines.specs.Lines.{closingOf};
 ghost use Rattle.lines.specs.Blocks.{Sane};
 ghost use Rattle.frames.specs.Told.{Behind, pieceOf, Ended};
 use walk::Walk;
@@ -107,6 +109,14 @@ fn read_all(buf: &mut [u8], out: &mut [u8]) -> Put
     }
 }
 
+// The closing lines of the state that the reads led to: they are put, since such a state is sane and the buffer has room.
+fn close(w: Walk, out: &mut [u8]) -> usize
+    requires { ⌜ Sane w × (137 ≤ length (now out)) ⌝ }
+    ensures { λ r. ⌜ Wrote (closingOf (w .offset) (w .seen) (w .frames) (w .accepted)) (now (out .entry)) 0 (now (out .exit)) r ⌝ }
+{
+    closing::closing(w, out, 0)
+}
+
 fn complain() {
     io::write_all(2, b"frames: a write failed\n");
 }
@@ -120,7 +130,7 @@ fn main() {
         return;
     }
     let state = r.state;
-    let n = lines::closing(state, &mut out, 0);
+    let n = close(state, &mut out);
     if !io::write_all(1, &out[..n]) {
         complain();
     }

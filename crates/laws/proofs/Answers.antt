@@ -46,8 +46,8 @@ pub enough : (s : List ℕ) → 52 ≤ length s → windowOf s ≡ Incomplete �
 unfolding windowOf
 enough s l e = window-enough s l (incomplete-from (window s) e)
 
--- an accepted message consumed 2 + size of its tag, and these bytes lie within the window
-pub covers : (s : List ℕ) (m : Message) (n : ℕ) → windowOf s ≡ Accepted m n → (n ≡ 2 + sizeOf (m .tag)) × (n ≤ length s)
+-- an accepted message consumed 2 + size of its tag; these bytes lie within the window, and a header is among them
+pub covers : (s : List ℕ) (m : Message) (n : ℕ) → windowOf s ≡ Accepted m n → (n ≡ 2 + sizeOf (m .tag)) × (n ≤ length s) × (13 ≤ n)
 unfolding windowOf
 covers s m n e =
     let a = accepted-from (window s) m n e in

@@ -73,16 +73,16 @@ window-enough s l e =
     firm-pre _ (bodyOf t s) (under-enough (find rows t) s (t ∷ []) (find-sized rows tt t) l) (sym (window-there s (omega arith)) ∙ e)
 
 -- what an accepted message consumed
-under-covers : (f : Found) (s us vs : List ℕ) (n : ℕ) → Sized f → 13 ≤ length s → under f s 13 us ≡ accepted vs n → (n ≡ 2 + sizeIn f) × (n ≤ length s)
+under-covers : (f : Found) (s us vs : List ℕ) (n : ℕ) → Sized f → 13 ≤ length s → under f s 13 us ≡ accepted vs n → (n ≡ 2 + sizeIn f) × (n ≤ length s) × (13 ≤ n)
 under-covers (found r) s us vs n z l e =
     let a = all-read (r .body) s 13 us accepted vs n e in
     let h : 13 + widths (r .body) ≤ length s = covers (a .1) l in
     let q : 13 + widths (r .body) ≡ n = cc (a .2) in
-    (omega arith, omega arith)
+    (omega arith, omega arith, omega arith)
 under-covers none s us vs n z l e = let y : _≡_ {A = ℕ} 0 1 = cc in absurd (omega arith)
 
--- consumed: 2 + size of the tag, which is the first value; and these bytes lie within the window
-pub window-covers : (s vs : List ℕ) (n : ℕ) → window s ≡ accepted vs n → (n ≡ 2 + sizeOf (getD vs 0 0)) × (n ≤ length s)
+-- consumed: 2 + size of the tag, which is the first value; these bytes lie within the window, and a header is among them
+pub window-covers : (s vs : List ℕ) (n : ℕ) → window s ≡ accepted vs n → (n ≡ 2 + sizeOf (getD vs 0 0)) × (n ≤ length s) × (13 ≤ n)
 unfolding bodyOf sizeOf
 window-covers s vs n e =
     ⊎-elim

@@ -2,20 +2,25 @@
 -- Assumes nothing.
 use Prim.Native.Nat.{ℕ, _≤_, _<_, _-_, _+_, _*_, _^_}
 use mathlib.Core.Path.{_≡_, refl, sym, ap, _∙_}
-use mathlib.Core.Bool.{true}
-use mathlib.Core.List.{List}
+use mathlib.Core.Bool.{Bool, true, false}
+use mathlib.Core.List.{List, [], _∷_, append-nil}
+use mathlib.Core.Logic.{_⊎_, inl, inr, ⊎-elim}
 use native.Mathlib.Omega.{arith}
+use native.Mathlib.Nat.{add-zero, zero-add}
 use lib.ListN.{length, drop, length-drop}
 use Rattle.reader.specs.declared.Window.{Window}
 use Rattle.walk.specs.declared.Walk.{Walk}
 use Rattle.walk.specs.Walk.{frameSize, countOf, judgeOf, put, readyOf, doneOf, moreOf, pastOf, stepOf}
 use Rattle.walk.proofs.Held.{put-started}
 use Rattle.walk.proofs.Cases.{moved-more, moved-done, count-one}
+use Rattle.walk.specs.Frames.{Entry, accepts}
 use Rattle.text.specs.Decimal.{Wrote}
+use Rattle.lines.specs.declared.Gone.{Gone}
 use Rattle.lines.specs.declared.Why.the-variants.{Used}
 use Rattle.lines.specs.declared.Blocked.{Blocked}
-use Rattle.lines.specs.Lines.{lineOf}
+use Rattle.lines.specs.Lines.{lineOf, linesOf}
 use Rattle.lines.specs.Blocks.{longest, startOf, Called}
+use Rattle.lines.specs.Whole.{Cutting, entryAt, Ends, Frames, none, more, Goes}
 use Rattle.lines.proofs.Turns.{Going, going-start, going-frame, going-cut, going-called}
 use Rattle.lines.proofs.Starts.{ready-all, ready-moves}
 
@@ -79,3 +84,58 @@ module _ (win : List ℕ → Window) (w : Walk) (b : List ℕ) (from : ℕ) (out
       going-called win b from out at w out' (pastOf w size v) (from + (size - w .seen)) o'
       (going-frame win b from out at w out w from at begun (doneOf w (size - w .seen) size v) h (omega arith) m (size - w .seen) size v refl out' o' p)
       after r (rw c at C)
+
+-- the frame that the held bytes begin is told, and it alone
+module _ (win : List ℕ → Window) (held : List ℕ) (size offset long to : ℕ) (two : 2 ≤ length held) (z : size ≡ frameSize held) where
+  abbrev one : Entry
+  one = entryAt win held 0 offset 0
+
+  pub record Alone (es : List Entry) (j : ℕ) : Type 0 where
+    pub all : es ≡ one ∷ []
+    pub whole : j ≡ size
+
+  alone-or : {es : List Entry} {j : ℕ} → Frames win held size 0 offset long to es j → ((es ≡ []) × (j ≡ 0)) ⊎ Alone es j
+  alone-or none = inl (refl, refl)
+  alone-or (more {es} {j} F E r) =
+      ⊎-elim
+      (λ n. inr (record { all = rw (n .0, n .1) refl; whole = rw (n .1, zero-add (frameSize held)) (sym z) }))
+      (λ a. absurd (omega (arith, E .before, a .whole)))
+      (alone-or F)
+
+  pub alone : {es : List Entry} {j : ℕ} → Frames win held size 0 offset long to es j → (full : Bool) → (full ≡ false → Cutting held size j)
+      → (full ≡ true → long < to + length (linesOf es) + longest) → to + longest ≤ long → Alone es j
+  unfolding linesOf
+  alone {es} {j} F full c f room = ⊎-elim (λ n. absurd (stopped full refl (n .0) (n .1))) (λ a. a) (alone-or F)
+    where
+      stopped : (b : Bool) → full ≡ b → es ≡ [] → j ≡ 0 → ⊥
+      stopped true e n i = omega (arith, rw n at (f e), room)
+      stopped false e n i =
+          ⊎-elim (λ le. omega (arith, le, i, z))
+          (λ d. ⊎-elim (λ few. omega (arith, few, i, two)) (λ short. let x : size - 0 < frameSize held = rw i at short in omega (arith, x, z)) d)
+          (c e)
+
+-- what the held frame's line leaves
+module _ (win : List ℕ → Window) (held : List ℕ) (size offset frames accepted : ℕ) (out : List ℕ) (to : ℕ) (after : List ℕ) (g : Gone)
+    (G : Goes win held size 0 offset frames accepted out to after g) (two : 2 ≤ length held) (z : size ≡ frameSize held) (room : to + longest ≤ length out) where
+  told-alone : Alone win held size offset (length out) to two z (G .entries) (g .at)
+  told-alone =
+      alone win held size offset (length out) to two z (G .run) (g .full) (λ e. G .cut e .0) (λ e. omega (arith, G .full e .1, G .text .next)) room
+
+  here : entryAt win held 0 offset 0 ≡ record { at = offset; size = size; what = judgeOf win held size }
+  here = rw (z, add-zero offset)
+
+  pub held-line : Wrote (lineOf (record { at = offset; size = size; what = judgeOf win held size })) out to after (g .to)
+  unfolding linesOf
+  held-line = rw (told-alone .all, here, append-nil (lineOf (record { at = offset; size = size; what = judgeOf win held size }))) at (G .text)
+
+  pub held-past : g .offset ≡ offset + size
+  held-past = omega (arith, G .past, told-alone .whole)
+
+  pub held-told : g .frames ≡ frames + 1
+  held-told = G .told ∙ ap (λ (l : List Entry). frames + length l) (told-alone .all)
+
+  pub held-good : g .accepted ≡ accepted + countOf (judgeOf win held size)
+  unfolding accepts
+  held-good =
+      let a : accepts (G .entries) ≡ countOf (judgeOf win held size) + 0 = ap accepts (told-alone .all) ∙ rw z in
+      omega (arith, G .good, a)

@@ -1,4 +1,5 @@
-pub mod Long
+pub mod Pairs
+pub mod Told
 pub mod Moves
 pub mod Turns
 pub mod Starts

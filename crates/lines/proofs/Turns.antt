@@ -116,6 +116,22 @@ module _ (win : List ℕ → Window) where
       (λ le. block-used (suc j) room w b i le ∙ sym (block-used (suc k) room w b i le))
       (less? i (length b))
 
+  -- a call that does nothing: nothing is left of the block, or the buffer has no room for a line
+  called-stopped : (w : Walk) (b : List ℕ) (from : ℕ) (out : List ℕ) (at : ℕ) (y : Why) → callOf win w b from out at ≡ stopped w from y
+      → Called win w b from out at out (record { state = w; from = from; at = at; why = y })
+  unfolding linesOf
+  called-stopped w b from out at y e = record { text = rw e; end = rw (e, add-zero at); inside = λ h. h }
+
+  pub called-used : (w : Walk) (b : List ℕ) (from : ℕ) (out : List ℕ) (at : ℕ) → length b ≤ from
+      → Called win w b from out at out (record { state = w; from = from; at = at; why = Used })
+  called-used w b from out at h = called-stopped w b from out at Used (block-used (length b - from) (length out - at) w b from h)
+
+  pub called-full : (w : Walk) (b : List ℕ) (from : ℕ) (out : List ℕ) (at : ℕ) → from < length b → length out - at < longest
+      → Called win w b from out at out (record { state = w; from = from; at = at; why = Full })
+  called-full w b from out at h r =
+      let e : length b - from ≡ suc (length b - from - 1) = omega arith in
+      called-stopped w b from out at Full (rw e (block-full (length b - from - 1) (length out - at) w b from h r))
+
   -- ---- the invariant: what is left to do, done to what is there, is the answer
 
   pub record Going (b : List ℕ) (from : ℕ) (out₀ : List ℕ) (at : ℕ) (w₀ : Walk) (out : List ℕ) (w : Walk) (i o : ℕ) : Type 0 where
@@ -136,7 +152,7 @@ module _ (win : List ℕ → Window) where
     going-stopped : (y : Why) → blockOf win (G .fuel) (length out - o) w b i ≡ stopped w i y
         → Called win w₀ b from out₀ at out (record { state = w; from = i; at = o; why = y })
     unfolding linesOf
-    going-stopped y e = record { text = rw e at (G .text); end = rw (e, add-zero o) at (G .end); inside = omega (arith, G .room, G .long) }
+    going-stopped y e = record { text = rw e at (G .text); end = rw (e, add-zero o) at (G .end); inside = λ _. omega (arith, G .room, G .long) }
 
     pub going-used : length b ≤ i → Called win w₀ b from out₀ at out (record { state = w; from = i; at = o; why = Used })
     going-used h = going-stopped Used (block-used (G .fuel) (length out - o) w b i h)
@@ -216,7 +232,7 @@ module _ (win : List ℕ → Window) where
         record {
           text = C .text ∙ ap (leftOf out o) e ∙ G .text;
           end = C .end ∙ ap (endOf o) e ∙ G .end;
-          inside = omega (arith, C .inside, G .long);
+          inside = λ _. omega (arith, C .inside (G .room), G .long);
         }
 
   -- the rest of the block ends no frame

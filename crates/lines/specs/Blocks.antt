@@ -94,4 +94,4 @@ module _ (win : List ℕ → Window) where
   pub record Called (w : Walk) (b : List ℕ) (i : ℕ) (out : List ℕ) (at : ℕ) (after : List ℕ) (r : Blocked) : Type 0 where
     pub text : after ≡ leftOf out at (callOf w b i out at)
     pub end : r ≡ endOf at (callOf w b i out at)
-    pub inside : r .at ≤ length out
+    pub inside : at ≤ length out → r .at ≤ length out

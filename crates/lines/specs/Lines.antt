@@ -3,7 +3,7 @@
 use Prim.Native.Nat.{ℕ, _+_, _-_}
 use mathlib.Core.List.{List, [], _∷_, _++_}
 use lib.ListN.{length}
-use Rattle.text.specs.Decimal.{decimalOf}
+use Rattle.text.specs.Decimal.{decimalOf, behind}
 use Rattle.walk.specs.declared.Verdict.{Verdict}
 use Rattle.walk.specs.declared.Verdict.the-variants.{Accepted, Bad}
 use Rattle.walk.specs.Frames.{Entry, Walked, accepts}
@@ -20,10 +20,6 @@ tailText = 116 ∷ 97 ∷ 105 ∷ 108 ∷ 32 ∷ []
 
 abbrev pub totalText : List ℕ
 totalText = 116 ∷ 111 ∷ 116 ∷ 97 ∷ 108 ∷ 32 ∷ []
-
--- a number and the byte behind it: a space, or the line's end
-abbrev pub behind : ℕ → ℕ → List ℕ
-behind n mark = decimalOf n ++ (mark ∷ [])
 
 -- behind a frame's offset
 unfoldable pub acceptedOf : ℕ → ℕ → List ℕ

@@ -1,35 +1,311 @@
-// The lines of `frames`, put into a lent buffer: a line for each frame, the tail and the totals.
-ghost use Prim.Native.Nat.{_+_, _-_, _*_, _^_, _≤_, _<_, min};
+// The lines of `frames`, put into a lent buffer: a line for each frame that ends in a block.
+ghost use Prim.Native.Nat.{_+_, _-_, _*_, _^_, _≤_, _<_};
 ghost use mathlib.Core.Bool.{true};
+ghost use mathlib.Core.List.{[], _∷_, _++_};
 ghost use mathlib.Core.Path.{_≡_};
 ghost use lib.ListN.{length};
 ghost use Rattle.reader.specs.Window.{windowOf};
-ghost use Rattle.walk.specs.Walk.{judgeOf, countOf, readyOf};
-ghost use Rattle.text.specs.Decimal.{Wrote};
-ghost use Rattle.lines.specs.Lines.{behind, acceptedOf, refusedOf, answerOf, lineOf, tailOf, totalOf, closingOf};
-ghost use Rattle.lines.specs.Blocks.{startOf, cutOf, stopsOf, Sane, Called};
+ghost use Rattle.walk.specs.Walk.{readyOf};
+ghost use Rattle.text.specs.Decimal.{twoOf, fourOf, decimalOf, Wrote};
+ghost use Rattle.lines.specs.Lines.{okText, acceptedOf, refusedOf};
+ghost use Rattle.lines.specs.Blocks.{startOf, cutOf, stopsOf, Called};
+ghost use Rattle.lines.specs.Whole.{pairs, isFull, haltedOf, Asked, Halts, Goes};
 use walk::Verdict;
 use walk::Walk;
 
-// A number, and a byte behind it.
-fn number(n: u64, mark: u8, out: &mut [u8], at: usize) -> usize
-    requires { ⌜ at + 21 ≤ length (now out) ⌝ }
-    ensures { λ r. ⌜ Wrote (behind n mark) (now (out .entry)) at (now (out .exit)) r ⌝ }
+// The two digits of each number below 100, one pair behind the other. Every line begins with an offset: its digits are taken from this table, which is
+// lent on from the function that walks a block, since a table that is indexed where it stands would be built again for each line.
+const PAIRS: [u8; 200] = [
+    48,
+    48,
+    48,
+    49,
+    48,
+    50,
+    48,
+    51,
+    48,
+    52,
+    48,
+    53,
+    48,
+    54,
+    48,
+    55,
+    48,
+    56,
+    48,
+    57,
+    49,
+    48,
+    49,
+    49,
+    49,
+    50,
+    49,
+    51,
+    49,
+    52,
+    49,
+    53,
+    49,
+    54,
+    49,
+    55,
+    49,
+    56,
+    49,
+    57,
+    50,
+    48,
+    50,
+    49,
+    50,
+    50,
+    50,
+    51,
+    50,
+    52,
+    50,
+    53,
+    50,
+    54,
+    50,
+    55,
+    50,
+    56,
+    50,
+    57,
+    51,
+    48,
+    51,
+    49,
+    51,
+    50,
+    51,
+    51,
+    51,
+    52,
+    51,
+    53,
+    51,
+    54,
+    51,
+    55,
+    51,
+    56,
+    51,
+    57,
+    52,
+    48,
+    52,
+    49,
+    52,
+    50,
+    52,
+    51,
+    52,
+    52,
+    52,
+    53,
+    52,
+    54,
+    52,
+    55,
+    52,
+    56,
+    52,
+    57,
+    53,
+    48,
+    53,
+    49,
+    53,
+    50,
+    53,
+    51,
+    53,
+    52,
+    53,
+    53,
+    53,
+    54,
+    53,
+    55,
+    53,
+    56,
+    53,
+    57,
+    54,
+    48,
+    54,
+    49,
+    54,
+    50,
+    54,
+    51,
+    54,
+    52,
+    54,
+    53,
+    54,
+    54,
+    54,
+    55,
+    54,
+    56,
+    54,
+    57,
+    55,
+    48,
+    55,
+    49,
+    55,
+    50,
+    55,
+    51,
+    55,
+    52,
+    55,
+    53,
+    55,
+    54,
+    55,
+    55,
+    55,
+    56,
+    55,
+    57,
+    56,
+    48,
+    56,
+    49,
+    56,
+    50,
+    56,
+    51,
+    56,
+    52,
+    56,
+    53,
+    56,
+    54,
+    56,
+    55,
+    56,
+    56,
+    56,
+    57,
+    57,
+    48,
+    57,
+    49,
+    57,
+    50,
+    57,
+    51,
+    57,
+    52,
+    57,
+    53,
+    57,
+    54,
+    57,
+    55,
+    57,
+    56,
+    57,
+    57,
+];
+
+fn two(n: u64, table: &[u8], out: &mut [u8], at: usize) -> usize
+    requires { ⌜ (n < 100) × (now table ≡ pairs) × (at + 2 ≤ length (now out)) ⌝ }
+    ensures { λ r. ⌜ Wrote (twoOf n) (now (out .entry)) at (now (out .exit)) r ⌝ }
 {
-    let next = text::decimal(n, out, at);
-    text::byte(mark, out, next)
+    let i = n as usize * 2;
+    let a = table[i];
+    let b = table[i + 1];
+    out[at] = a;
+    out[at + 1] = b;
+    at + 2
 }
 
-// Behind the offset of an accepted frame. Its size has two digits at most.
-fn accepted(tag: u8, size: usize, out: &mut [u8], at: usize) -> usize
-    requires { ⌜ at + 27 ≤ length (now out) ⌝ }
+fn four(n: u64, table: &[u8], out: &mut [u8], at: usize) -> usize
+    requires { ⌜ (n < 10000) × (now table ≡ pairs) × (at + 4 ≤ length (now out)) ⌝ }
+    ensures { λ r. ⌜ Wrote (fourOf n) (now (out .entry)) at (now (out .exit)) r ⌝ }
+{
+    let k = two(n / 100, table, out, at);
+    two(n % 100, table, out, k)
+}
+
+fn digit(n: u64, out: &mut [u8], at: usize) -> usize
+    requires { ⌜ (n < 10) × (at + 1 ≤ length (now out)) ⌝ }
+    ensures { λ r. ⌜ Wrote (decimalOf n) (now (out .entry)) at (now (out .exit)) r ⌝ }
+{
+    out[at] = 48 + n as u8;
+    at + 1
+}
+
+// A number of at most four digits, without zeros in front.
+fn front(n: u64, table: &[u8], out: &mut [u8], at: usize) -> usize
+    requires { ⌜ (n < 10000) × (now table ≡ pairs) × (at + 4 ≤ length (now out)) ⌝ }
+    ensures { λ r. ⌜ Wrote (decimalOf n) (now (out .entry)) at (now (out .exit)) r ⌝ }
+{
+    if n < 10 {
+        return digit(n, out, at);
+    }
+    if n < 100 {
+        return two(n, table, out, at);
+    }
+    if n < 1000 {
+        let k = digit(n / 100, out, at);
+        return two(n % 100, table, out, k);
+    }
+    four(n, table, out, at)
+}
+
+// The offset that a line begins with.
+fn offset_text(n: u64, table: &[u8], out: &mut [u8], at: usize) -> usize
+    requires { ⌜ (now table ≡ pairs) × (at + 20 ≤ length (now out)) ⌝ }
+    ensures { λ r. ⌜ Wrote (decimalOf n) (now (out .entry)) at (now (out .exit)) r ⌝ }
+{
+    if n < 10000 {
+        return front(n, table, out, at);
+    }
+    if n < 100000000 {
+        let k = front(n / 10000, table, out, at);
+        return four(n % 10000, table, out, k);
+    }
+    if n < 1000000000000 {
+        let k = front(n / 100000000, table, out, at);
+        let l = four(n / 10000 % 10000, table, out, k);
+        return four(n % 10000, table, out, l);
+    }
+    text::decimal(n, out, at)
+}
+
+fn ok_tag(tag: u8, out: &mut [u8], at: usize) -> usize
+    requires { ⌜ at + 6 ≤ length (now out) ⌝ }
+    ensures { λ r. ⌜ Wrote (okText ++ (tag ∷ 32 ∷ [])) (now (out .entry)) at (now (out .exit)) r ⌝ }
+{
+    out[at] = b' ';
+    out[at + 1] = b'o';
+    out[at + 2] = b'k';
+    out[at + 3] = b' ';
+    out[at + 4] = tag;
+    out[at + 5] = b' ';
+    at + 6
+}
+
+// Behind the offset of an accepted frame, whose size has two digits.
+fn accepted(tag: u8, size: usize, table: &[u8], out: &mut [u8], at: usize) -> usize
+    requires { ⌜ (10 ≤ size) × (size < 100) × (now table ≡ pairs) × (at + 9 ≤ length (now out)) ⌝ }
     ensures { λ r. ⌜ Wrote (acceptedOf tag size) (now (out .entry)) at (now (out .exit)) r ⌝ }
 {
-    let a = text::word(b' ', b'o', b'k', b' ', out, at);
-    let b = text::byte(tag, out, a);
-    let c = text::byte(b' ', out, b);
-    let d = text::short(size as u64, out, c);
-    text::byte(b'\n', out, d)
+    let a = ok_tag(tag, out, at);
+    let b = two(size as u64, table, out, a);
+    out[b] = b'\n';
+    b + 1
 }
 
 // Behind the offset of a refused frame.
@@ -40,40 +316,172 @@ fn refused(code: u8, place: usize, out: &mut [u8], at: usize) -> usize
     let a = text::word(b' ', b'r', b'e', b'f', out, at);
     let b = text::word(b'u', b's', b'e', b'd', out, a);
     let c = text::byte(b' ', out, b);
-    let d = number(code as u64, b' ', out, c);
-    number(place as u64, b'\n', out, d)
+    let d = text::number(code as u64, b' ', out, c);
+    text::number(place as u64, b'\n', out, d)
 }
 
-// The place behind a frame's line, and 1 if the frame is accepted.
-struct Told {
+// Why the lines of accepted frames stop: no further frame ends here; the buffer has no room for another line; the next frame is refused, with number,
+// place and size, and of its line the offset is put.
+enum Halt {
+    Cut,
+    Full,
+    Bad(u8, usize, usize),
+}
+
+// Where that is, in the bytes walked and in the buffer, and how many frames were accepted.
+struct Halted {
     at: usize,
+    to: usize,
     count: u64,
+    why: Halt,
 }
 
-fn answered(what: Verdict, size: usize, out: &mut [u8], at: usize) -> Told
-    requires { ⌜ at + 51 ≤ length (now out) ⌝ }
-    ensures { λ r. ⌜ Wrote (answerOf what size) (now (out .entry)) at (now (out .exit)) (r .at) × (r .count ≡ countOf what) ⌝ }
+fn stopped_at(at: usize, to: usize, count: u64, what: Verdict, size: usize) -> Halted
+    ensures { λ r. ⌜ r ≡ haltedOf at to count what size ⌝ }
 {
     match what {
-        Verdict::Accepted(m) => {
-            let end = accepted(m.tag, size, out, at);
-            Told { at: end, count: 1 }
-        }
-        Verdict::Bad(code, place) => {
-            let end = refused(code, place, out, at);
-            Told { at: end, count: 0 }
-        }
+        Verdict::Bad(number, place) => Halted {
+            at,
+            to,
+            count,
+            why: Halt::Bad(number, place, size),
+        },
+        Verdict::Accepted(_message) => Halted {
+            at,
+            to,
+            count,
+            why: Halt::Cut,
+        },
     }
 }
 
-// The line of the frame that begins with s: at most 71 bytes. Nothing else here judges frames, so that the reader is compiled into it.
-fn line(s: &[u8], size: usize, offset: u64, out: &mut [u8], at: usize) -> Told
-    requires { ⌜ at + 71 ≤ length (now out) ⌝ }
-    ensures { λ r. ⌜ Wrote (lineOf (record { at = offset; size = size; what = judgeOf windowOf (now (s .entry)) size })) (now (out .entry)) at (now (out .exit)) (r .at) × (r .count ≡ countOf (judgeOf windowOf (now (s .entry)) size)) ⌝ }
+// A line for each accepted frame of s, from place `from` on, that ends within the first `have` bytes, up to the first frame that is not so. The loop is
+// left at a refused frame, and nothing else judges frames: so the reader is compiled into it.
+fn told_accepted(
+    s: &[u8],
+    have: usize,
+    from: usize,
+    offset: u64,
+    table: &[u8],
+    out: &mut [u8],
+    to: usize,
+) -> Halted
+    requires { ⌜ Asked (now s) have from offset (now table) (length (now out)) to ⌝ }
+    ensures { λ r. ⌜ Halts windowOf (now (s .entry)) have from offset (now (out .entry)) to (now (out .exit)) r ⌝ }
 {
-    let next = text::decimal(offset, out, at);
-    let what = walk::judge(s, size);
-    answered(what, size, out, next)
+    let mut i = from;
+    let mut o = to;
+    let mut count = 0;
+    loop {
+        if have <= i {
+            return Halted {
+                at: i,
+                to: o,
+                count,
+                why: Halt::Cut,
+            };
+        }
+        if out.len() - o < 72 {
+            return Halted {
+                at: i,
+                to: o,
+                count,
+                why: Halt::Full,
+            };
+        }
+        if s.len() <= i + 1 {
+            return Halted {
+                at: i,
+                to: o,
+                count,
+                why: Halt::Cut,
+            };
+        }
+        let size = walk::size_by(s[i], s[i + 1]);
+        if have - i < size {
+            return Halted {
+                at: i,
+                to: o,
+                count,
+                why: Halt::Cut,
+            };
+        }
+        let a = offset_text(offset + (i - from) as u64, table, out, o);
+        let what = walk::judge(&s[i..], size);
+        let Verdict::Accepted(message) = what else {
+            return stopped_at(i, a, count, what, size);
+        };
+        o = accepted(message.tag, size, table, out, a);
+        i += size;
+        count += 1;
+    }
+}
+
+fn is_full(why: Halt) -> bool
+    ensures { λ r. ⌜ r ≡ isFull why ⌝ }
+{
+    match why {
+        Halt::Full => true,
+        Halt::Cut => false,
+        Halt::Bad(_, _, _) => false,
+    }
+}
+
+// Where the lines of all frames stop, with the counts behind them; and whether they stop for want of room.
+struct Gone {
+    at: usize,
+    to: usize,
+    offset: u64,
+    frames: u64,
+    accepted: u64,
+    full: bool,
+}
+
+// A line for each frame of s, from place `from` on, that ends within the first `have` bytes: the accepted ones, then a refused one, and so on. s is these
+// bytes, or the first 52 of them where they are one frame.
+fn told_frames(
+    s: &[u8],
+    have: usize,
+    from: usize,
+    table: &[u8],
+    out: &mut [u8],
+    to: usize,
+    offset: u64,
+    frames: u64,
+    accepted: u64,
+) -> Gone
+    requires { ⌜ Asked (now s) have from offset (now table) (length (now out)) to × (2 * frames ≤ offset) × (accepted ≤ frames) ⌝ }
+    ensures { λ r. ⌜ Goes windowOf (now (s .entry)) have from offset frames accepted (now (out .entry)) to (now (out .exit)) r ⌝ }
+{
+    let mut i = from;
+    let mut o = to;
+    let mut off = offset;
+    let mut fr = frames;
+    let mut acc = accepted;
+    loop {
+        let h = told_accepted(s, have, i, off, table, out, o);
+        let j = h.at;
+        let k = h.to;
+        let past = off + (j - i) as u64;
+        let told = fr + h.count;
+        let good = acc + h.count;
+        let why = h.why;
+        let Halt::Bad(number, place, size) = why else {
+            return Gone {
+                at: j,
+                to: k,
+                offset: past,
+                frames: told,
+                accepted: good,
+                full: is_full(why),
+            };
+        };
+        o = refused(number, place, out, k);
+        i = j + size;
+        off = past + size as u64;
+        fr = told + 1;
+        acc = good;
+    }
 }
 
 // Why a call over a block came back: the block is used up; the buffer has no room for another line; a step refuses.
@@ -90,20 +498,7 @@ pub struct Blocked {
     pub why: Why,
 }
 
-// A state at a frame's first byte.
-fn start(offset: u64, frames: u64, accepted: u64) -> Walk
-    ensures { λ r. ⌜ r ≡ startOf offset frames accepted ⌝ }
-{
-    Walk {
-        offset,
-        seen: 0,
-        held: [0u8; 52],
-        frames,
-        accepted,
-    }
-}
-
-// The state past the last bytes of a block, which end no frame.
+// The state past the last bytes of a block, which end no frame; at a frame's first byte, if there are none.
 fn cut(offset: u64, frames: u64, accepted: u64, rest: &[u8]) -> Walk
     ensures { λ r. ⌜ r ≡ cutOf (startOf offset frames accepted) (now (rest .entry)) ⌝ }
 {
@@ -117,70 +512,74 @@ fn cut(offset: u64, frames: u64, accepted: u64, rest: &[u8]) -> Walk
     }
 }
 
-// Walks the block from place `from` on, where a frame begins. Neither a state nor held bytes are in the loop: frames that end in the block are judged
-// where they lie.
+fn start(offset: u64, frames: u64, accepted: u64) -> Walk
+    ensures { λ r. ⌜ r ≡ startOf offset frames accepted ⌝ }
+{
+    Walk {
+        offset,
+        seen: 0,
+        held: [0u8; 52],
+        frames,
+        accepted,
+    }
+}
+
+// Walks the block from place `from` on, where a frame begins. Neither a state nor held bytes are in the loop: frames that end in the block are judged where
+// they lie.
 fn from_start(
     block: &[u8],
     from: usize,
+    table: &[u8],
     out: &mut [u8],
     at: usize,
     offset: u64,
     frames: u64,
     accepted: u64,
 ) -> Blocked
-    requires { ⌜ (from ≤ length (now block)) × (at ≤ length (now out)) × (offset + (length (now block) - from) < 2 ^ 64) × (2 * frames ≤ offset) × (accepted ≤ frames) ⌝ }
+    requires { ⌜ (from ≤ length (now block)) × (at ≤ length (now out)) × (offset + (length (now block) - from) < 2 ^ 64) × (2 * frames ≤ offset) × (accepted ≤ frames)
+        × (now table ≡ pairs) ⌝ }
     ensures { λ r. ⌜ Called windowOf (startOf offset frames accepted) (now (block .entry)) from (now (out .entry)) at (now (out .exit)) r ⌝ }
 {
-    let mut i = from;
-    let mut o = at;
-    let mut off = offset;
-    let mut fr = frames;
-    let mut acc = accepted;
-    while i < block.len() {
-        if out.len() - o < 72 {
-            return Blocked {
-                state: start(off, fr, acc),
-                from: i,
-                at: o,
-                why: Why::Full,
-            };
-        }
-        let left = block.len() - i;
-        if left < 2 {
-            return Blocked {
-                state: cut(off, fr, acc, &block[i..]),
-                from: i + left,
-                at: o,
-                why: Why::Used,
-            };
-        }
-        let size = walk::size_by(block[i], block[i + 1]);
-        if left < size {
-            return Blocked {
-                state: cut(off, fr, acc, &block[i..]),
-                from: i + left,
-                at: o,
-                why: Why::Used,
-            };
-        }
-        let told = line(&block[i..], size, off, out, o);
-        i += size;
-        off += size as u64;
-        fr += 1;
-        acc += told.count;
-        o = told.at;
+    let g = told_frames(
+        block,
+        block.len(),
+        from,
+        table,
+        out,
+        at,
+        offset,
+        frames,
+        accepted,
+    );
+    let i = g.at;
+    let to = g.to;
+    if g.full {
+        return Blocked {
+            state: start(g.offset, g.frames, g.accepted),
+            from: i,
+            at: to,
+            why: Why::Full,
+        };
     }
+    let left = block.len() - i;
     Blocked {
-        state: start(off, fr, acc),
-        from: i,
-        at: o,
+        state: cut(g.offset, g.frames, g.accepted, &block[i..]),
+        from: i + left,
+        at: to,
         why: Why::Used,
     }
 }
 
 // Ends, if the block has its last byte, the frame that the state is in; then the block from there on.
-fn from_inside(w: Walk, block: &[u8], from: usize, out: &mut [u8], at: usize) -> Blocked
-    requires { ⌜ (from < length (now block)) × (at + 72 ≤ length (now out)) × (readyOf w (length (now block) - from) ≡ true) ⌝ }
+fn from_inside(
+    w: Walk,
+    block: &[u8],
+    from: usize,
+    table: &[u8],
+    out: &mut [u8],
+    at: usize,
+) -> Blocked
+    requires { ⌜ (from < length (now block)) × (at + 72 ≤ length (now out)) × (readyOf w (length (now block) - from) ≡ true) × (now table ≡ pairs) ⌝ }
     ensures { λ r. ⌜ Called windowOf w (now (block .entry)) from (now (out .entry)) at (now (out .exit)) r ⌝ }
 {
     let seen = w.seen;
@@ -206,32 +605,38 @@ fn from_inside(w: Walk, block: &[u8], from: usize, out: &mut [u8], at: usize) ->
             why: Why::Used,
         };
     }
-    let told = line(&held, size, offset, out, at);
-    let next = told.at;
+    let g = told_frames(&held, size, 0, table, out, at, offset, frames, accepted);
     let used = size - seen;
     from_start(
         block,
         from + used,
+        table,
         out,
-        next,
-        offset + size as u64,
-        frames + 1,
-        accepted + told.count,
+        g.to,
+        g.offset,
+        g.frames,
+        g.accepted,
     )
 }
 
 // Walks the block from place `from` on, and puts a line at `at` and on for each frame that ends in it. 30 and 33 are asked once, for all of it.
 pub fn walk_block(w: Walk, block: &[u8], from: usize, out: &mut [u8], at: usize) -> Blocked
-    requires { ⌜ (from ≤ length (now block)) × (at ≤ length (now out)) ⌝ }
     ensures { λ r. ⌜ Called windowOf w (now (block .entry)) from (now (out .entry)) at (now (out .exit)) r ⌝ }
 {
-    let left = block.len() - from;
-    if left == 0 {
+    if block.len() <= from {
         return Blocked {
             state: w,
             from,
             at,
             why: Why::Used,
+        };
+    }
+    if out.len() <= at {
+        return Blocked {
+            state: w,
+            from,
+            at,
+            why: Why::Full,
         };
     }
     if out.len() - at < 72 {
@@ -242,6 +647,7 @@ pub fn walk_block(w: Walk, block: &[u8], from: usize, out: &mut [u8], at: usize)
             why: Why::Full,
         };
     }
+    let left = block.len() - from;
     if !walk::ready(w, left) {
         return Blocked {
             state: w,
@@ -250,10 +656,11 @@ pub fn walk_block(w: Walk, block: &[u8], from: usize, out: &mut [u8], at: usize)
             why: Why::Stopped,
         };
     }
+    let table = PAIRS;
     if w.seen == 0 {
-        return from_start(block, from, out, at, w.offset, w.frames, w.accepted);
+        return from_start(block, from, &table, out, at, w.offset, w.frames, w.accepted);
     }
-    from_inside(w, block, from, out, at)
+    from_inside(w, block, from, &table, out, at)
 }
 
 pub fn stops(why: Why) -> bool
@@ -264,42 +671,4 @@ pub fn stops(why: Why) -> bool
         Why::Full => false,
         Why::Stopped => true,
     }
-}
-
-fn tail(offset: u64, left: usize, out: &mut [u8], at: usize) -> usize
-    requires { ⌜ at + 47 ≤ length (now out) ⌝ }
-    ensures { λ r. ⌜ Wrote (tailOf offset left) (now (out .entry)) at (now (out .exit)) r ⌝ }
-{
-    let a = text::word(b't', b'a', b'i', b'l', out, at);
-    let b = text::byte(b' ', out, a);
-    let c = number(offset, b' ', out, b);
-    number(left as u64, b'\n', out, c)
-}
-
-fn total(frames: u64, accepted: u64, refused: u64, bytes: u64, out: &mut [u8], at: usize) -> usize
-    requires { ⌜ at + 90 ≤ length (now out) ⌝ }
-    ensures { λ r. ⌜ Wrote (totalOf frames accepted refused bytes) (now (out .entry)) at (now (out .exit)) r ⌝ }
-{
-    let a = text::word(b't', b'o', b't', b'a', out, at);
-    let b = text::byte(b'l', out, a);
-    let c = text::byte(b' ', out, b);
-    let d = number(frames, b' ', out, c);
-    let e = number(accepted, b' ', out, d);
-    let f = number(refused, b' ', out, e);
-    number(bytes, b'\n', out, f)
-}
-
-// The tail and the totals of a state: at most 137 bytes.
-pub fn closing(w: Walk, out: &mut [u8], at: usize) -> usize
-    requires { ⌜ Sane w × (at + 137 ≤ length (now out)) ⌝ }
-    ensures { λ r. ⌜ Wrote (closingOf (w .offset) (w .seen) (w .frames) (w .accepted)) (now (out .entry)) at (now (out .exit)) r ⌝ }
-{
-    let offset = w.offset;
-    let seen = w.seen;
-    let frames = w.frames;
-    let accepted = w.accepted;
-    let next = tail(offset, seen, out, at);
-    let refused = frames - accepted;
-    let bytes = offset + seen as u64;
-    total(frames, accepted, refused, bytes, out, next)
 }

@@ -63,7 +63,7 @@ module _ (win : List ℕ → Window) (laws : Lawful win) where
       → take (r .at) after ≡ linesOf (callOf win w b i out 0 .entries)
   call-text w b i out after r C =
       let e : r .at ≡ 0 + length (linesOf (callOf win w b i out 0 .entries)) = ap (λ (x : Blocked). x .at) (C .end) in
-      wrote-front (record { bytes = C .text; next = e; inside = C .inside })
+      wrote-front (record { bytes = C .text; next = e; inside = C .inside (omega arith) })
 
   pub record Told (w : Walk) (ps ts : List (List ℕ)) (w' : Walk) : Type 0 where
     pub frames : List Entry

@@ -3,15 +3,11 @@
 use Prim.Native.Nat.{ℕ, zero, suc}
 use mathlib.Core.Bool.{cond}
 use mathlib.Core.List.{List, [], _∷_, _++_}
-use lib.Dec.{ltb}
-use lib.ListN.{getD}
-use Rattle.text.specs.Decimal.{decimalOf}
+use lib.Dec.{eqb, ltb}
+use lib.ListN.{length, getD}
+use Rattle.text.specs.Decimal.{behind}
 use Rattle.stream.specs.declared.Answer.{Answer}
 use Rattle.stream.specs.declared.Answer.the-variants.{Message, Wants, Ready, Nothing, Refused}
-
--- a number and the byte behind it: a space, or the line's end
-abbrev pub behind : ℕ → ℕ → List ℕ
-behind n mark = decimalOf n ++ (mark ∷ [])
 
 -- the line of a tag value, if it has one
 unfoldable pub lineOf : ℕ → ℕ → List ℕ
@@ -53,3 +49,7 @@ stoppedOf number place = stoppedText ++ (behind number 32 ++ behind place 10)
 -- the whole output
 unfoldable pub tallyOf : List ℕ → ℕ → Answer → List ℕ
 tallyOf c messages a = linesOf c 256 ++ (messagesOf messages ++ stoppedOf (numberOf a) (placeOf a))
+
+-- what is put for any counters: the whole output of 256, and nothing of any other
+unfoldable pub printedOf : List ℕ → ℕ → Answer → List ℕ
+printedOf c messages a = cond (eqb (length c) 256) (tallyOf c messages a) []

@@ -2,18 +2,9 @@
 ghost use mathlib.Core.Path.{_≡_};
 ghost use Prim.Native.Nat.{_+_, _≤_};
 ghost use lib.ListN.{length};
-ghost use Rattle.text.specs.Decimal.{Wrote};
-ghost use Rattle.tally_lines.specs.Lines.{behind, lineOf, linesOf, numberOf, placeOf, messagesOf, stoppedOf, tallyOf};
+ghost use Rattle.text.specs.Decimal.{Wrote, Puts};
+ghost use Rattle.tally_lines.specs.Lines.{lineOf, linesOf, numberOf, placeOf, messagesOf, stoppedOf, printedOf};
 use stream::Answer;
-
-// A number, and a byte behind it.
-fn number(n: u64, mark: u8, out: &mut [u8], at: usize) -> usize
-    requires { ⌜ at + 21 ≤ length (now out) ⌝ }
-    ensures { λ r. ⌜ Wrote (behind n mark) (now (out .entry)) at (now (out .exit)) r × (r ≤ at + 21) ⌝ }
-{
-    let next = text::decimal(n, out, at);
-    text::byte(mark, out, next)
-}
 
 // The line of a tag value, if its count is above zero.
 fn line(tag: u8, n: u64, out: &mut [u8], at: usize) -> usize
@@ -23,7 +14,7 @@ fn line(tag: u8, n: u64, out: &mut [u8], at: usize) -> usize
     if n > 0 {
         let a = text::byte(tag, out, at);
         let b = text::byte(32, out, a);
-        return number(n, 10, out, b);
+        return text::number(n, 10, out, b);
     }
     at
 }
@@ -48,7 +39,7 @@ fn messages_line(messages: u64, out: &mut [u8], at: usize) -> usize
     let a = text::word(109, 101, 115, 115, out, at);
     let b = text::word(97, 103, 101, 115, out, a);
     let c = text::byte(32, out, b);
-    number(messages, 10, out, c)
+    text::number(messages, 10, out, c)
 }
 
 fn stopped_line(stop: u8, place: usize, out: &mut [u8], at: usize) -> usize
@@ -57,8 +48,8 @@ fn stopped_line(stop: u8, place: usize, out: &mut [u8], at: usize) -> usize
 {
     let a = text::word(115, 116, 111, 112, out, at);
     let b = text::word(112, 101, 100, 32, out, a);
-    let c = number(stop as u64, 32, out, b);
-    number(place as u64, 10, out, c)
+    let c = text::number(stop as u64, 32, out, b);
+    text::number(place as u64, 10, out, c)
 }
 
 fn number_of(answer: Answer) -> u8
@@ -85,11 +76,16 @@ fn place_of(answer: Answer) -> usize
     }
 }
 
-// The whole output at the front of the buffer; the place behind it is answered.
+// The whole output at the front of the buffer, if it has room for it and there are 256 counters; the place behind it is answered.
 pub fn tally(count: &[u64], messages: u64, answer: Answer, out: &mut [u8]) -> usize
-    requires { ⌜ (length (now count) ≡ 256) × (5968 ≤ length (now out)) ⌝ }
-    ensures { λ r. ⌜ Wrote (tallyOf (now (count .entry)) messages answer) (now (out .entry)) 0 (now (out .exit)) r ⌝ }
+    ensures { λ r. ⌜ Puts 5968 (printedOf (now (count .entry)) messages answer) (now (out .entry)) 0 (now (out .exit)) r ⌝ }
 {
+    if out.len() < 5968 {
+        return 0;
+    }
+    if count.len() != 256 {
+        return 0;
+    }
     let stop = number_of(answer);
     let place = place_of(answer);
     let a = lines(count, out);

@@ -1,8 +1,11 @@
 // The run of the stream over standard input, to its first refusal or its end, with a counter for each tag value. It stands in a library, so that
-// `tally` and the two programs that only test it on other inputs are the same code.
+// `tally` and the three programs that only test it on other inputs are the same code.
 ghost use mathlib.Core.Path.{_≡_};
 ghost use mathlib.Core.Bool.{true};
-ghost use Prim.Native.Nat.{_+_};
+ghost use Prim.Native.Nat.{_+_, _≤_};
+ghost use lib.ListN.{length};
+ghost use Rattle.text.specs.Decimal.{Wrote};
+ghost use Rattle.tally_lines.specs.Lines.{tallyOf};
 ghost use Rattle.stream.specs.declared.Answer.the-variants.{Ready};
 ghost use Rattle.stream_laws.specs.Ends.{stops};
 ghost use Rattle.tallying.specs.Counts.{Counters, Drained, ReadSome};
@@ -75,6 +78,14 @@ fn run(count: &mut [u64]) -> Step
     }
 }
 
+// The lines of the counters: they are put, since there are 256 and the buffer has room.
+fn put_tally(count: &[u64], messages: u64, answer: Answer, out: &mut [u8]) -> usize
+    requires { ⌜ Counters (now count) messages × (5968 ≤ length (now out)) ⌝ }
+    ensures { λ r. ⌜ Wrote (tallyOf (now (count .entry)) messages answer) (now (out .entry)) 0 (now (out .exit)) r ⌝ }
+{
+    tally_lines::tally(count, messages, answer, out)
+}
+
 // Runs the stream, and prints the counts.
 pub fn print_tally() {
     let mut count = [0u64; 256];
@@ -82,7 +93,7 @@ pub fn print_tally() {
     let last = run(&mut count);
     let state = last.state;
     let answer = last.answer;
-    let n = tally_lines::tally(&count, state.messages, answer, &mut out);
+    let n = put_tally(&count, state.messages, answer, &mut out);
     if !io::write_all(1, &out[..n]) {
         io::write_all(2, b"tally: standard output cannot be written\n");
     }

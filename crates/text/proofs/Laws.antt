@@ -3,14 +3,14 @@
 use Prim.Native.Nat.{ℕ, zero, suc, _+_, _/_, _%_, _^_, _≤_, _<_}
 use mathlib.Core.Bool.{Bool, true, false}
 use mathlib.Core.List.{List, [], _∷_, _++_, append-assoc}
-use mathlib.Core.Path.{_≡_, refl, ap, _∙_}
+use mathlib.Core.Path.{_≡_, refl, sym, ap, _∙_}
 use native.Mathlib.Nat.{add-zero, pow-suc}
 use native.Mathlib.Omega.{arith}
 use borrow.Author.Tests.{lt-ltb, le-ltb, ltb-true, ltb-false}
 use lib.Dec.{ltb}
 use lib.ListN.{length, set, take, drop, length-append}
 use lib.Seq.{sets, length-sets, sets-eq, take-append-seam}
-use Rattle.text.specs.Decimal.{oneOf, twoOf, fourOf, eightOf, digitsBy, decimalOf, Wrote}
+use Rattle.text.specs.Decimal.{oneOf, twoOf, fourOf, eightOf, digitsBy, decimalOf, behind, Wrote, Puts}
 
 -- ---- decimal
 
@@ -70,6 +70,10 @@ last-8 n h =
     ∙ append-assoc (decimalOf (n / 10000 / 10000)) (fourOf (n / 10000 % 10000)) (fourOf (n % 10000))
     ∙ rw (a, b, c)
 
+pub decimal-four : (n : ℕ) → 1000 ≤ n → n < 10000 → decimalOf n ≡ fourOf n
+unfolding fourOf
+decimal-four n h g = last-2 n (omega arith) ∙ ap (λ (l : List ℕ). l ++ twoOf (n % 100)) (decimal-two (n / 100) (omega arith) (omega arith))
+
 -- how long it is
 pub four-long : (n : ℕ) → length (fourOf n) ≡ 4
 unfolding fourOf
@@ -86,7 +90,7 @@ pub more-8 : (n : ℕ) → 100000000 ≤ n → length (decimalOf n) ≡ length (
 unfolding eightOf fourOf
 more-8 n h = ap length (last-8 n h) ∙ length-append (decimalOf (n / 100000000)) (eightOf (n % 100000000))
 
-decimal-short : (k n : ℕ) → n < 10 ^ (suc k) → length (decimalOf n) ≤ suc k
+pub decimal-short : (k n : ℕ) → n < 10 ^ (suc k) → length (decimalOf n) ≤ suc k
 decimal-short zero n h = rw (decimal-one n h) (omega arith)
 decimal-short (suc k) n h = go (λ a. decimal-short k (n / 10) a) (ltb n 10) refl
   where
@@ -97,6 +101,9 @@ decimal-short (suc k) n h = go (λ a. decimal-short k (n / 10) a) (ltb n 10) ref
 
 pub decimal-20 : (n : ℕ) → n < 2 ^ 64 → length (decimalOf n) ≤ 20
 decimal-20 n h = decimal-short 19 n (omega arith)
+
+pub behind-long : (n mark : ℕ) → n < 2 ^ 64 → length (behind n mark) ≤ 21
+behind-long n mark h = rw length-append (omega (arith, decimal-20 n h))
 
 -- ---- texts
 
@@ -113,6 +120,9 @@ wrote-long {t} {b} {a} {at} p = ap length (p .bytes) ∙ length-sets b at t
 pub wrote-none : (b : List ℕ) (at : ℕ) → at ≤ length b → Wrote [] b at b at
 wrote-none b at h = record { bytes = refl; next = omega arith; inside = h }
 
+pub wrote-byte : (x : ℕ) (b : List ℕ) (at : ℕ) → at < length b → Wrote (x ∷ []) b at (set b at x) (at + 1)
+wrote-byte x b at h = record { bytes = refl; next = refl; inside = omega arith }
+
 pub wrote-append : {t u b m a : List ℕ} {at r s : ℕ} → Wrote t b at m r → Wrote u m r a s → Wrote (t ++ u) b at a s
 wrote-append {t} {u} {b} {m} {a} {at} {r} {s} p q =
     record {
@@ -120,6 +130,15 @@ wrote-append {t} {u} {b} {m} {a} {at} {r} {s} p q =
       next = omega (arith, p .next, q .next, length-append t u);
       inside = omega (arith, q .inside, wrote-long p);
     }
+
+-- and taken apart again
+pub wrote-split : {t u b a : List ℕ} {at r : ℕ} → Wrote (t ++ u) b at a r → Wrote t b at (sets b at t) (at + length t) × Wrote u (sets b at t) (at + length t) a r
+wrote-split {t} {u} {b} {a} {at} {r} p =
+    let l = length-append t u in
+    let k = length-sets b at t in (
+      record { bytes = refl; next = refl; inside = omega (arith, p .next, p .inside, l) },
+      record { bytes = p .bytes ∙ sym (sets-append t u b at); next = omega (arith, p .next, l); inside = omega (arith, p .inside, k) },
+    )
 
 -- the same text by another name
 pub wrote-as : {t u b a : List ℕ} {at r : ℕ} → u ≡ t → Wrote t b at a r → Wrote u b at a r
@@ -139,3 +158,10 @@ wrote-front {t} {b} {a} {r} p =
     let e : r ≡ length t = omega (arith, p .next) in
     let z : a ≡ t ++ drop (0 + length t) b = wrote-parts p in
     rw (e, z) (take-append-seam t (drop (0 + length t) b))
+
+-- a put that finds room, and one that does not
+pub puts-fits : {room : ℕ} {t b a : List ℕ} {at r : ℕ} → at + room ≤ length b → Wrote t b at a r → Puts room t b at a r
+puts-fits h p = record { fits = λ _. p; full = λ l. absurd (omega (arith, h, l)) }
+
+pub puts-full : {room : ℕ} {t b : List ℕ} {at : ℕ} → length b < at + room → Puts room t b at b at
+puts-full h = record { fits = λ l. absurd (omega (arith, h, l)); full = λ _. (refl, refl) }

@@ -32,6 +32,10 @@ digitsBy (suc k) n =
 unfoldable pub decimalOf : ℕ → List ℕ
 decimalOf n = digitsBy (suc n) n
 
+-- a number and the byte behind it: a space, or the line's end
+abbrev pub behind : ℕ → ℕ → List ℕ
+behind n mark = decimalOf n ++ (mark ∷ [])
+
 -- the number that a text of digits spells, in base ten
 unfoldable pub valueFrom : ℕ → List ℕ → ℕ
 valueFrom v [] = v
@@ -55,3 +59,8 @@ pub record Wrote (t b : List ℕ) (at : ℕ) (after : List ℕ) (r : ℕ) : Type
   pub bytes : after ≡ sets b at t
   pub next : r ≡ at + length t
   pub inside : r ≤ length b
+
+-- where the buffer has `room` bytes from `at` on, the text is put there; where it has not, nothing is
+pub record Puts (room : ℕ) (t b : List ℕ) (at : ℕ) (after : List ℕ) (r : ℕ) : Type 0 where
+  pub fits : at + room ≤ length b → Wrote t b at after r
+  pub full : length b < at + room → (after ≡ b) × (r ≡ at)

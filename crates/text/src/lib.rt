@@ -1,9 +1,10 @@
-// Text put into a lent buffer: each function puts its text at a place and answers the place behind it.
+// Text put into a lent buffer: each function puts its text at a place, if there is room for it, and answers the
+// place behind it.
 ghost use Prim.Native.Nat.{_+_, _≤_, _<_};
 ghost use mathlib.Core.List.{[], _∷_};
 ghost use mathlib.Core.Path.{_≡_};
 ghost use lib.ListN.{length};
-ghost use Rattle.text.specs.Decimal.{oneOf, twoOf, fourOf, eightOf, decimalOf, Wrote};
+ghost use Rattle.text.specs.Decimal.{oneOf, twoOf, fourOf, eightOf, decimalOf, behind, Wrote, Puts};
 
 fn as_byte(x: u64) -> u8
     requires { ⌜ x ≤ 255 ⌝ }
@@ -104,8 +105,7 @@ fn long(n: u64, out: &mut [u8], at: usize) -> usize
     eight(n % 100000000, out, k)
 }
 
-// A number in decimal.
-pub fn decimal(n: u64, out: &mut [u8], at: usize) -> usize
+fn digits(n: u64, out: &mut [u8], at: usize) -> usize
     requires { ⌜ at + length (decimalOf n) ≤ length (now out) ⌝ }
     ensures { λ r. ⌜ Wrote (decimalOf n) (now (out .entry)) at (now (out .exit)) r ⌝ }
 {
@@ -115,31 +115,58 @@ pub fn decimal(n: u64, out: &mut [u8], at: usize) -> usize
     long(n, out, at)
 }
 
-// The same, for a number that mostly has two digits at most.
-pub fn short(n: u64, out: &mut [u8], at: usize) -> usize
-    requires { ⌜ at + length (decimalOf n) ≤ length (now out) ⌝ }
-    ensures { λ r. ⌜ Wrote (decimalOf n) (now (out .entry)) at (now (out .exit)) r ⌝ }
+// A number in decimal: at most 20 bytes.
+pub fn decimal(n: u64, out: &mut [u8], at: usize) -> usize
+    ensures { λ r. ⌜ Puts 20 (decimalOf n) (now (out .entry)) at (now (out .exit)) r ⌝ }
 {
-    if n < 100 {
-        return up_to_2(n, out, at);
+    let len = out.len();
+    if len < 20 {
+        return at;
     }
-    decimal(n, out, at)
+    if len - 20 < at {
+        return at;
+    }
+    digits(n, out, at)
+}
+
+// A number in decimal, and a byte behind it: at most 21 bytes.
+pub fn number(n: u64, mark: u8, out: &mut [u8], at: usize) -> usize
+    ensures { λ r. ⌜ Puts 21 (behind n mark) (now (out .entry)) at (now (out .exit)) r ⌝ }
+{
+    let len = out.len();
+    if len < 21 {
+        return at;
+    }
+    if len - 21 < at {
+        return at;
+    }
+    let next = digits(n, out, at);
+    out[next] = mark;
+    next + 1
 }
 
 // One byte.
 pub fn byte(b: u8, out: &mut [u8], at: usize) -> usize
-    requires { ⌜ at + 1 ≤ length (now out) ⌝ }
-    ensures { λ r. ⌜ Wrote (b ∷ []) (now (out .entry)) at (now (out .exit)) r ⌝ }
+    ensures { λ r. ⌜ Puts 1 (b ∷ []) (now (out .entry)) at (now (out .exit)) r ⌝ }
 {
+    if out.len() <= at {
+        return at;
+    }
     out[at] = b;
     at + 1
 }
 
 // Four bytes.
 pub fn word(a: u8, b: u8, c: u8, d: u8, out: &mut [u8], at: usize) -> usize
-    requires { ⌜ at + 4 ≤ length (now out) ⌝ }
-    ensures { λ r. ⌜ Wrote (a ∷ b ∷ c ∷ d ∷ []) (now (out .entry)) at (now (out .exit)) r ⌝ }
+    ensures { λ r. ⌜ Puts 4 (a ∷ b ∷ c ∷ d ∷ []) (now (out .entry)) at (now (out .exit)) r ⌝ }
 {
+    let len = out.len();
+    if len < 4 {
+        return at;
+    }
+    if len - 4 < at {
+        return at;
+    }
     out[at] = a;
     out[at + 1] = b;
     out[at + 2] = c;

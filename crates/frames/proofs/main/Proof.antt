@@ -29,17 +29,17 @@ complain-requires c κs = search needs
 returns : tie.Need-returns
 returns c = search needs
 
-slice-aggregate-closing : tie.Need-slice-aggregate-closing
-slice-aggregate-closing c = search needs
+slice-aggregate-close : tie.Need-slice-aggregate-close
+slice-aggregate-close c = search needs
 
-closing-requires : tie.Need-closing-requires
-closing-requires c κs = search needs
+close-requires : tie.Need-close-requires
+close-requires c κs = search needs
 
 array-share-prefix-out : tie.Need-array-share-prefix-out
 array-share-prefix-out c = search needs
 
 slice-aggregate-write-all : tie.Need-slice-aggregate-write-all
-slice-aggregate-write-all c = sym (length-take-le _ _ (omega (arith, c .before .before .closing .ensures .inside, wrote-long (c .before .before .closing .ensures))))
+slice-aggregate-write-all c = sym (length-take-le _ _ (omega (arith, c .before .before .close .ensures .inside, wrote-long (c .before .before .close .ensures))))
 
 write-all-requires : tie.Need-write-all-requires
 write-all-requires c κs = search needs
@@ -64,8 +64,8 @@ main-spec =
     read-all-requires
     complain-requires
     returns
-    slice-aggregate-closing
-    closing-requires
+    slice-aggregate-close
+    close-requires
     array-share-prefix-out
     slice-aggregate-write-all
     write-all-requires

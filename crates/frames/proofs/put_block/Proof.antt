@@ -21,13 +21,13 @@ loop-holds : tie.Need-loop-holds Inv-loop μ-loop
 loop-holds c = (in-start _ _ (c .before .before .pre .0), refl, c .before .before .pre .2, c .before .before .pre .1)
 
 walk-block-requires : tie.Need-walk-block-requires Inv-loop μ-loop
-walk-block-requires c κs = (omega arith, omega arith)
+walk-block-requires c κs = search needs
 
 slice-reshare-prefix-write-all : tie.Need-slice-reshare-prefix-write-all Inv-loop μ-loop
-slice-reshare-prefix-write-all c = omega (arith, c .before .before .walk-block .ensures .inside, called-long (c .before .before .before .before .before .before .before .before .args .block .now) (c .before .before .before .before .before .before .before .before .args .w) (c .before .before .before .before .before .loop .state) (c .before .before .before .before .before .loop .from) (c .before .before .before .before .before .loop .out) _ (c .before .before .walk-block .result) (c .before .before .before .before .before .loop .inv .0) (c .before .before .walk-block .ensures))
+slice-reshare-prefix-write-all c = omega (arith, c .before .before .walk-block .ensures .inside (omega arith), called-long (c .before .before .before .before .before .before .before .before .args .block .now) (c .before .before .before .before .before .before .before .before .args .w) (c .before .before .before .before .before .loop .state) (c .before .before .before .before .before .loop .from) (c .before .before .before .before .before .loop .out) _ (c .before .before .walk-block .result) (c .before .before .before .before .before .loop .inv .0) (c .before .before .walk-block .ensures))
 
 slice-aggregate-write-all : tie.Need-slice-aggregate-write-all Inv-loop μ-loop
-slice-aggregate-write-all c = sym (length-take-le _ _ (omega (arith, c .before .before .before .walk-block .ensures .inside, called-long (c .before .before .before .before .before .before .before .before .before .args .block .now) (c .before .before .before .before .before .before .before .before .before .args .w) (c .before .before .before .before .before .before .loop .state) (c .before .before .before .before .before .before .loop .from) (c .before .before .before .before .before .before .loop .out) _ (c .before .before .before .walk-block .result) (c .before .before .before .before .before .before .loop .inv .0) (c .before .before .before .walk-block .ensures))))
+slice-aggregate-write-all c = sym (length-take-le _ _ (omega (arith, c .before .before .before .walk-block .ensures .inside (omega arith), called-long (c .before .before .before .before .before .before .before .before .before .args .block .now) (c .before .before .before .before .before .before .before .before .before .args .w) (c .before .before .before .before .before .before .loop .state) (c .before .before .before .before .before .before .loop .from) (c .before .before .before .before .before .before .loop .out) _ (c .before .before .before .walk-block .result) (c .before .before .before .before .before .before .loop .inv .0) (c .before .before .before .walk-block .ensures))))
 
 write-all-requires : tie.Need-write-all-requires Inv-loop μ-loop
 write-all-requires c κs = search needs

@@ -1,13 +1,15 @@
 -- `lines::from_inside` meets its contract.
 -- Assumes nothing.
-use Prim.Native.Nat.{_-_}
+use Prim.Native.Nat.{_-_, _≤_}
+use mathlib.Core.Path.{_≡_, refl}
 use native.Mathlib.Omega.{arith}
 use lib.ListN.{length}
 use Rattle.reader.specs.Window.{windowOf}
+use Rattle.walk.specs.Walk.{countOf, judgeOf}
 use Rattle.text.proofs.Laws.{wrote-long}
 use Rattle.lines.proofs.Turns.{part-all}
 use Rattle.lines.proofs.Starts.{ready-all}
-use Rattle.lines.proofs.Inside.{inside-cut, inside-fits, inside-line}
+use Rattle.lines.proofs.Inside.{inside-cut, inside-fits, inside-line, held-line, held-past, held-told, held-good}
 use borrow.Author.Needs.{needs}
 use Rattle.lines.proofs.from_inside.Statement.{statement}
 use Rattle.lines.proofs.from_inside.Tie as tie
@@ -37,51 +39,51 @@ sub-left : tie.Need-sub-left
 sub-left c = search needs
 
 add-total : tie.Need-add-total
-add-total c = omega (arith, ready-all (c .before .before .before .before .before .before .args .w) (length (c .before .before .before .before .before .before .args .block .now) - (c .before .before .before .before .before .before .args .from)) (c .before .before .before .before .before .before .pre .2) .room)
+add-total c = omega (arith, ready-all (c .before .before .before .before .before .before .before .args .w) (length (c .before .before .before .before .before .before .before .args .block .now) - c .before .before .before .before .before .before .before .args .from) (c .before .before .before .before .before .before .before .pre .2) .room)
 
 add-t32 : tie.Need-add-t32
 add-t32 c = search needs
 
 returns : tie.Need-returns
-returns c = inside-cut windowOf (c .before .before .before .before .before .before .before .args .w) (c .before .before .before .before .before .before .before .args .block .now) (c .before .before .before .before .before .before .before .args .from) (c .before .before .before .before .before .before .before .args .out .now) (c .before .before .before .before .before .before .before .args .at) (c .before .before .before .before .before .before .before .pre .0) (c .before .before .before .before .before .before .before .pre .1) (c .before .before .before .before .before .before .before .pre .2) (c .before .before .put-in .result) (c .before .size-by .result) (rw (part-all (c .before .before .before .before .before .before .before .args .block .now) (c .before .before .before .before .before .before .before .args .from)) at (c .before .before .put-in .ensures)) (c .before .size-by .ensures) (c .if1 .taken)
+returns c = inside-cut windowOf (c .before .before .before .before .before .before .before .before .args .w) (c .before .before .before .before .before .before .before .before .args .block .now) (c .before .before .before .before .before .before .before .before .args .from) (c .before .before .before .before .before .before .before .before .args .out .now) (c .before .before .before .before .before .before .before .before .args .at) (c .before .before .before .before .before .before .before .before .pre .0) (c .before .before .before .before .before .before .before .before .pre .1) (c .before .before .before .before .before .before .before .before .pre .2) (c .before .before .put-in .result) (c .before .size-by .result) (rw (part-all (c .before .before .before .before .before .before .before .before .args .block .now) (c .before .before .before .before .before .before .before .before .args .from)) at (c .before .before .put-in .ensures)) (c .before .size-by .ensures) (c .if1 .taken)
 
-slice-aggregate-line : tie.Need-slice-aggregate-line
-slice-aggregate-line c = search needs
+slice-aggregate-told-frames : tie.Need-slice-aggregate-told-frames
+slice-aggregate-told-frames c = search needs
 
-line-requires : tie.Need-line-requires
-line-requires c κs = search needs
+told-frames-requires : tie.Need-told-frames-requires
+told-frames-requires c κs =
+    let f = inside-fits windowOf (c .before .before .before .before .before .before .before .before .before .before .args .w) (c .before .before .before .before .before .before .before .before .before .before .args .block .now) (c .before .before .before .before .before .before .before .before .before .before .args .from) (c .before .before .before .before .before .before .before .before .before .before .args .out .now) (c .before .before .before .before .before .before .before .before .before .before .args .at) (c .before .before .before .before .before .before .before .before .before .before .pre .0) (c .before .before .before .before .before .before .before .before .before .before .pre .1) (c .before .before .before .before .before .before .before .before .before .before .pre .2) (c .before .before .before .before .put-in .result) (c .before .before .before .size-by .result) (rw (part-all (c .before .before .before .before .before .before .before .before .before .before .args .block .now) (c .before .before .before .before .before .before .before .before .before .before .args .from)) at (c .before .before .before .before .put-in .ensures)) (c .before .before .before .size-by .ensures) (countOf (judgeOf windowOf (c .before .before .before .before .put-in .result) (c .before .before .before .size-by .result))) refl (c .before .before .if1 .left) in
+    let r = ready-all (c .before .before .before .before .before .before .before .before .before .before .args .w) (length (c .before .before .before .before .before .before .before .before .before .before .args .block .now) - c .before .before .before .before .before .before .before .before .before .before .args .from) (c .before .before .before .before .before .before .before .before .before .before .pre .2) in
+    (record { begun = omega arith; fits = omega (arith, f .room); digits = c .before .before .before .before .before .before .before .before .before .before .pre .3; inside = omega (arith, c .before .before .before .before .before .before .before .before .before .before .pre .1) }, r .two, r .counted)
 
 sub-used : tie.Need-sub-used
-sub-used c = inside-fits windowOf (c .before .before .before .before .before .before .before .before .before .before .before .before .args .w) (c .before .before .before .before .before .before .before .before .before .before .before .before .args .block .now) (c .before .before .before .before .before .before .before .before .before .before .before .before .args .from) (c .before .before .before .before .before .before .before .before .before .before .before .before .args .out .now) (c .before .before .before .before .before .before .before .before .before .before .before .before .args .at) (c .before .before .before .before .before .before .before .before .before .before .before .before .pre .0) (c .before .before .before .before .before .before .before .before .before .before .before .before .pre .1) (c .before .before .before .before .before .before .before .before .before .before .before .before .pre .2) (c .before .before .before .before .before .before .before .put-in .result) (c .before .before .before .before .before .before .size-by .result) (rw (part-all (c .before .before .before .before .before .before .before .before .before .before .before .before .args .block .now) (c .before .before .before .before .before .before .before .before .before .before .before .before .args .from)) at (c .before .before .before .before .before .before .before .put-in .ensures)) (c .before .before .before .before .before .before .size-by .ensures) (c .before .before .line .result .count) (c .before .before .line .ensures .1) (c .before .before .before .before .before .if1 .left) .more
+sub-used c = inside-fits windowOf (c .before .before .before .before .before .before .before .before .before .before .before .before .before .args .w) (c .before .before .before .before .before .before .before .before .before .before .before .before .before .args .block .now) (c .before .before .before .before .before .before .before .before .before .before .before .before .before .args .from) (c .before .before .before .before .before .before .before .before .before .before .before .before .before .args .out .now) (c .before .before .before .before .before .before .before .before .before .before .before .before .before .args .at) (c .before .before .before .before .before .before .before .before .before .before .before .before .before .pre .0) (c .before .before .before .before .before .before .before .before .before .before .before .before .before .pre .1) (c .before .before .before .before .before .before .before .before .before .before .before .before .before .pre .2) (c .before .before .before .before .before .before .before .put-in .result) (c .before .before .before .before .before .before .size-by .result) (rw (part-all (c .before .before .before .before .before .before .before .before .before .before .before .before .before .args .block .now) (c .before .before .before .before .before .before .before .before .before .before .before .before .before .args .from)) at (c .before .before .before .before .before .before .before .put-in .ensures)) (c .before .before .before .before .before .before .size-by .ensures) (countOf (judgeOf windowOf (c .before .before .before .before .before .before .before .put-in .result) (c .before .before .before .before .before .before .size-by .result))) refl (c .before .before .before .before .before .if1 .left) .more
 
 add-from-start : tie.Need-add-from-start
 add-from-start c = search needs
 
-add-from-start-2 : tie.Need-add-from-start-2
-add-from-start-2 c =
-    let f = inside-fits windowOf (c .before .before .before .before .before .before .before .before .before .before .before .before .before .args .w) (c .before .before .before .before .before .before .before .before .before .before .before .before .before .args .block .now) (c .before .before .before .before .before .before .before .before .before .before .before .before .before .args .from) (c .before .before .before .before .before .before .before .before .before .before .before .before .before .args .out .now) (c .before .before .before .before .before .before .before .before .before .before .before .before .before .args .at) (c .before .before .before .before .before .before .before .before .before .before .before .before .before .pre .0) (c .before .before .before .before .before .before .before .before .before .before .before .before .before .pre .1) (c .before .before .before .before .before .before .before .before .before .before .before .before .before .pre .2) (c .before .before .before .before .before .before .before .before .put-in .result) (c .before .before .before .before .before .before .before .size-by .result) (rw (part-all (c .before .before .before .before .before .before .before .before .before .before .before .before .before .args .block .now) (c .before .before .before .before .before .before .before .before .before .before .before .before .before .args .from)) at (c .before .before .before .before .before .before .before .before .put-in .ensures)) (c .before .before .before .before .before .before .before .size-by .ensures) (c .before .before .before .line .result .count) (c .before .before .before .line .ensures .1) (c .before .before .before .before .before .before .if1 .left) in
-    omega (arith, f .room)
-
-add-from-start-3 : tie.Need-add-from-start-3
-add-from-start-3 c =
-    let f = inside-fits windowOf (c .before .before .before .before .before .before .before .before .before .before .before .before .before .args .w) (c .before .before .before .before .before .before .before .before .before .before .before .before .before .args .block .now) (c .before .before .before .before .before .before .before .before .before .before .before .before .before .args .from) (c .before .before .before .before .before .before .before .before .before .before .before .before .before .args .out .now) (c .before .before .before .before .before .before .before .before .before .before .before .before .before .args .at) (c .before .before .before .before .before .before .before .before .before .before .before .before .before .pre .0) (c .before .before .before .before .before .before .before .before .before .before .before .before .before .pre .1) (c .before .before .before .before .before .before .before .before .before .before .before .before .before .pre .2) (c .before .before .before .before .before .before .before .before .put-in .result) (c .before .before .before .before .before .before .before .size-by .result) (rw (part-all (c .before .before .before .before .before .before .before .before .before .before .before .before .before .args .block .now) (c .before .before .before .before .before .before .before .before .before .before .before .before .before .args .from)) at (c .before .before .before .before .before .before .before .before .put-in .ensures)) (c .before .before .before .before .before .before .before .size-by .ensures) (c .before .before .before .line .result .count) (c .before .before .before .line .ensures .1) (c .before .before .before .before .before .before .if1 .left) in
-    omega (arith, f .room, f .two)
-
-add-from-start-4 : tie.Need-add-from-start-4
-add-from-start-4 c =
-    let f = inside-fits windowOf (c .before .before .before .before .before .before .before .before .before .before .before .before .before .before .args .w) (c .before .before .before .before .before .before .before .before .before .before .before .before .before .before .args .block .now) (c .before .before .before .before .before .before .before .before .before .before .before .before .before .before .args .from) (c .before .before .before .before .before .before .before .before .before .before .before .before .before .before .args .out .now) (c .before .before .before .before .before .before .before .before .before .before .before .before .before .before .args .at) (c .before .before .before .before .before .before .before .before .before .before .before .before .before .before .pre .0) (c .before .before .before .before .before .before .before .before .before .before .before .before .before .before .pre .1) (c .before .before .before .before .before .before .before .before .before .before .before .before .before .before .pre .2) (c .before .before .before .before .before .before .before .before .before .put-in .result) (c .before .before .before .before .before .before .before .before .size-by .result) (rw (part-all (c .before .before .before .before .before .before .before .before .before .before .before .before .before .before .args .block .now) (c .before .before .before .before .before .before .before .before .before .before .before .before .before .before .args .from)) at (c .before .before .before .before .before .before .before .before .before .put-in .ensures)) (c .before .before .before .before .before .before .before .before .size-by .ensures) (c .before .before .before .before .line .result .count) (c .before .before .before .before .line .ensures .1) (c .before .before .before .before .before .before .before .if1 .left) in
-    omega (arith, f .room, f .two, f .counted)
+-- the held bytes are 52
+held-two : (c : tie.After-from-start-arg) → 2 ≤ length (c .before .before .before .before .before .before .before .before .put-in .result)
+held-two c = search needs
 
 from-start-requires : tie.Need-from-start-requires
 from-start-requires c κs =
-    let f = inside-fits windowOf (c .before .before .before .before .before .before .before .before .before .before .before .before .before .before .args .w) (c .before .before .before .before .before .before .before .before .before .before .before .before .before .before .args .block .now) (c .before .before .before .before .before .before .before .before .before .before .before .before .before .before .args .from) (c .before .before .before .before .before .before .before .before .before .before .before .before .before .before .args .out .now) (c .before .before .before .before .before .before .before .before .before .before .before .before .before .before .args .at) (c .before .before .before .before .before .before .before .before .before .before .before .before .before .before .pre .0) (c .before .before .before .before .before .before .before .before .before .before .before .before .before .before .pre .1) (c .before .before .before .before .before .before .before .before .before .before .before .before .before .before .pre .2) (c .before .before .before .before .before .before .before .before .before .put-in .result) (c .before .before .before .before .before .before .before .before .size-by .result) (rw (part-all (c .before .before .before .before .before .before .before .before .before .before .before .before .before .before .args .block .now) (c .before .before .before .before .before .before .before .before .before .before .before .before .before .before .args .from)) at (c .before .before .before .before .before .before .before .before .before .put-in .ensures)) (c .before .before .before .before .before .before .before .before .size-by .ensures) (c .before .before .before .before .line .result .count) (c .before .before .before .before .line .ensures .1) (c .before .before .before .before .before .before .before .if1 .left) in
-    (f .within, omega (arith, c .before .before .before .before .line .ensures .0 .inside, wrote-long (c .before .before .before .before .line .ensures .0)), f .room, f .two, f .counted)
+    let two = held-two c in
+    let f = inside-fits windowOf (c .before .before .before .before .before .before .before .before .before .before .before .before .before .before .args .w) (c .before .before .before .before .before .before .before .before .before .before .before .before .before .before .args .block .now) (c .before .before .before .before .before .before .before .before .before .before .before .before .before .before .args .from) (c .before .before .before .before .before .before .before .before .before .before .before .before .before .before .args .out .now) (c .before .before .before .before .before .before .before .before .before .before .before .before .before .before .args .at) (c .before .before .before .before .before .before .before .before .before .before .before .before .before .before .pre .0) (c .before .before .before .before .before .before .before .before .before .before .before .before .before .before .pre .1) (c .before .before .before .before .before .before .before .before .before .before .before .before .before .before .pre .2) (c .before .before .before .before .before .before .before .before .put-in .result) (c .before .before .before .before .before .before .before .size-by .result) (rw (part-all (c .before .before .before .before .before .before .before .before .before .before .before .before .before .before .args .block .now) (c .before .before .before .before .before .before .before .before .before .before .before .before .before .before .args .from)) at (c .before .before .before .before .before .before .before .before .put-in .ensures)) (c .before .before .before .before .before .before .before .size-by .ensures) (countOf (judgeOf windowOf (c .before .before .before .before .before .before .before .before .put-in .result) (c .before .before .before .before .before .before .before .size-by .result))) refl (c .before .before .before .before .before .before .if1 .left) in
+    let p = held-line windowOf (c .before .before .before .before .before .before .before .before .put-in .result) (c .before .before .before .before .before .before .before .size-by .result) (c .before .before .before .before .before .before .before .before .before .before .before .before .before .before .args .w .offset) (c .before .before .before .before .before .before .before .before .before .before .before .before .before .before .args .w .frames) (c .before .before .before .before .before .before .before .before .before .before .before .before .before .before .args .w .accepted) _ _ _ _ (c .before .before .before .told-frames .ensures) two (c .before .before .before .before .before .before .before .size-by .ensures) (c .before .before .before .before .before .before .before .before .before .before .before .before .before .before .pre .1) in
+    let past = held-past windowOf (c .before .before .before .before .before .before .before .before .put-in .result) (c .before .before .before .before .before .before .before .size-by .result) (c .before .before .before .before .before .before .before .before .before .before .before .before .before .before .args .w .offset) (c .before .before .before .before .before .before .before .before .before .before .before .before .before .before .args .w .frames) (c .before .before .before .before .before .before .before .before .before .before .before .before .before .before .args .w .accepted) _ _ _ _ (c .before .before .before .told-frames .ensures) two (c .before .before .before .before .before .before .before .size-by .ensures) (c .before .before .before .before .before .before .before .before .before .before .before .before .before .before .pre .1) in
+    let told = held-told windowOf (c .before .before .before .before .before .before .before .before .put-in .result) (c .before .before .before .before .before .before .before .size-by .result) (c .before .before .before .before .before .before .before .before .before .before .before .before .before .before .args .w .offset) (c .before .before .before .before .before .before .before .before .before .before .before .before .before .before .args .w .frames) (c .before .before .before .before .before .before .before .before .before .before .before .before .before .before .args .w .accepted) _ _ _ _ (c .before .before .before .told-frames .ensures) two (c .before .before .before .before .before .before .before .size-by .ensures) (c .before .before .before .before .before .before .before .before .before .before .before .before .before .before .pre .1) in
+    let good = held-good windowOf (c .before .before .before .before .before .before .before .before .put-in .result) (c .before .before .before .before .before .before .before .size-by .result) (c .before .before .before .before .before .before .before .before .before .before .before .before .before .before .args .w .offset) (c .before .before .before .before .before .before .before .before .before .before .before .before .before .before .args .w .frames) (c .before .before .before .before .before .before .before .before .before .before .before .before .before .before .args .w .accepted) _ _ _ _ (c .before .before .before .told-frames .ensures) two (c .before .before .before .before .before .before .before .size-by .ensures) (c .before .before .before .before .before .before .before .before .before .before .before .before .before .before .pre .1) in
+    (f .within, omega (arith, p .inside, wrote-long p), omega (arith, f .room, past), omega (arith, f .two, told, past), omega (arith, f .counted, good, told), c .before .before .before .before .before .before .before .before .before .before .before .before .before .before .pre .3)
 
 same-length : tie.Need-same-length
 same-length c = search needs
 
 returns-2 : tie.Need-returns-2
-returns-2 c = inside-line windowOf (c .before .before .before .before .before .before .before .before .before .before .before .before .before .before .before .before .before .args .w) (c .before .before .before .before .before .before .before .before .before .before .before .before .before .before .before .before .before .args .block .now) (c .before .before .before .before .before .before .before .before .before .before .before .before .before .before .before .before .before .args .from) (c .before .before .before .before .before .before .before .before .before .before .before .before .before .before .before .before .before .args .out .now) (c .before .before .before .before .before .before .before .before .before .before .before .before .before .before .before .before .before .args .at) (c .before .before .before .before .before .before .before .before .before .before .before .before .before .before .before .before .before .pre .0) (c .before .before .before .before .before .before .before .before .before .before .before .before .before .before .before .before .before .pre .1) (c .before .before .before .before .before .before .before .before .before .before .before .before .before .before .before .before .before .pre .2) (c .before .before .before .before .before .before .before .before .before .before .before .before .put-in .result) (c .before .before .before .before .before .before .before .before .before .before .before .size-by .result) (rw (part-all (c .before .before .before .before .before .before .before .before .before .before .before .before .before .before .before .before .before .args .block .now) (c .before .before .before .before .before .before .before .before .before .before .before .before .before .before .before .before .before .args .from)) at (c .before .before .before .before .before .before .before .before .before .before .before .before .put-in .ensures)) (c .before .before .before .before .before .before .before .before .before .before .before .size-by .ensures) (c .before .before .before .before .before .before .before .before .before .before .if1 .left) _ _ _ (c .before .before .before .before .before .before .before .line .ensures .0) (c .before .before .before .before .before .before .before .line .ensures .1) _ _ (c .before .before .from-start .ensures)
+returns-2 c =
+    let two = held-two (c .before .before .before) in
+    inside-line windowOf (c .before .before .before .before .before .before .before .before .before .before .before .before .before .before .before .before .before .args .w) (c .before .before .before .before .before .before .before .before .before .before .before .before .before .before .before .before .before .args .block .now) (c .before .before .before .before .before .before .before .before .before .before .before .before .before .before .before .before .before .args .from) (c .before .before .before .before .before .before .before .before .before .before .before .before .before .before .before .before .before .args .out .now) (c .before .before .before .before .before .before .before .before .before .before .before .before .before .before .before .before .before .args .at) (c .before .before .before .before .before .before .before .before .before .before .before .before .before .before .before .before .before .pre .0) (c .before .before .before .before .before .before .before .before .before .before .before .before .before .before .before .before .before .pre .1) (c .before .before .before .before .before .before .before .before .before .before .before .before .before .before .before .before .before .pre .2) (c .before .before .before .before .before .before .before .before .before .before .before .put-in .result) (c .before .before .before .before .before .before .before .before .before .before .size-by .result) (rw (part-all (c .before .before .before .before .before .before .before .before .before .before .before .before .before .before .before .before .before .args .block .now) (c .before .before .before .before .before .before .before .before .before .before .before .before .before .before .before .before .before .args .from)) at (c .before .before .before .before .before .before .before .before .before .before .before .put-in .ensures)) (c .before .before .before .before .before .before .before .before .before .before .size-by .ensures) (c .before .before .before .before .before .before .before .before .before .if1 .left) _ _ _ (held-line windowOf (c .before .before .before .before .before .before .before .before .before .before .before .put-in .result) (c .before .before .before .before .before .before .before .before .before .before .size-by .result) (c .before .before .before .before .before .before .before .before .before .before .before .before .before .before .before .before .before .args .w .offset) (c .before .before .before .before .before .before .before .before .before .before .before .before .before .before .before .before .before .args .w .frames) (c .before .before .before .before .before .before .before .before .before .before .before .before .before .before .before .before .before .args .w .accepted) _ _ _ _ (c .before .before .before .before .before .before .told-frames .ensures) two (c .before .before .before .before .before .before .before .before .before .before .size-by .ensures) (c .before .before .before .before .before .before .before .before .before .before .before .before .before .before .before .before .before .pre .1)) refl _ _
+    (rw (held-past windowOf (c .before .before .before .before .before .before .before .before .before .before .before .put-in .result) (c .before .before .before .before .before .before .before .before .before .before .size-by .result) (c .before .before .before .before .before .before .before .before .before .before .before .before .before .before .before .before .before .args .w .offset) (c .before .before .before .before .before .before .before .before .before .before .before .before .before .before .before .before .before .args .w .frames) (c .before .before .before .before .before .before .before .before .before .before .before .before .before .before .before .before .before .args .w .accepted) _ _ _ _ (c .before .before .before .before .before .before .told-frames .ensures) two (c .before .before .before .before .before .before .before .before .before .before .size-by .ensures) (c .before .before .before .before .before .before .before .before .before .before .before .before .before .before .before .before .before .pre .1), held-told windowOf (c .before .before .before .before .before .before .before .before .before .before .before .put-in .result) (c .before .before .before .before .before .before .before .before .before .before .size-by .result) (c .before .before .before .before .before .before .before .before .before .before .before .before .before .before .before .before .before .args .w .offset) (c .before .before .before .before .before .before .before .before .before .before .before .before .before .before .before .before .before .args .w .frames) (c .before .before .before .before .before .before .before .before .before .before .before .before .before .before .before .before .before .args .w .accepted) _ _ _ _ (c .before .before .before .before .before .before .told-frames .ensures) two (c .before .before .before .before .before .before .before .before .before .before .size-by .ensures) (c .before .before .before .before .before .before .before .before .before .before .before .before .before .before .before .before .before .pre .1), held-good windowOf (c .before .before .before .before .before .before .before .before .before .before .before .put-in .result) (c .before .before .before .before .before .before .before .before .before .before .size-by .result) (c .before .before .before .before .before .before .before .before .before .before .before .before .before .before .before .before .before .args .w .offset) (c .before .before .before .before .before .before .before .before .before .before .before .before .before .before .before .before .before .args .w .frames) (c .before .before .before .before .before .before .before .before .before .before .before .before .before .before .before .before .before .args .w .accepted) _ _ _ _ (c .before .before .before .before .before .before .told-frames .ensures) two (c .before .before .before .before .before .before .before .before .before .before .size-by .ensures) (c .before .before .before .before .before .before .before .before .before .before .before .before .before .before .before .before .before .pre .1)) at (c .before .before .from-start .ensures))
 
 pub from-inside-spec : {M : Type 1} → statement M
 from-inside-spec =
@@ -98,13 +100,10 @@ from-inside-spec =
     add-total
     add-t32
     returns
-    slice-aggregate-line
-    line-requires
+    slice-aggregate-told-frames
+    told-frames-requires
     sub-used
     add-from-start
-    add-from-start-2
-    add-from-start-3
-    add-from-start-4
     from-start-requires
     same-length
     returns-2)

@@ -1,7 +1,7 @@
 -- `tally_lines::line` meets its contract.
 -- Assumes nothing.
 use native.Mathlib.Omega.{arith}
-use Rattle.text.proofs.Laws.{wrote-none, wrote-append, wrote-as}
+use Rattle.text.proofs.Laws.{behind-long, wrote-none, wrote-append, wrote-as}
 use Rattle.tally_lines.proofs.Text.{line-some, line-none}
 use borrow.Author.Needs.{needs}
 use Rattle.tally_lines.proofs.line.Statement.{statement}
@@ -20,10 +20,13 @@ same-length : tie.Need-same-length
 same-length c = search needs
 
 returns : tie.Need-returns
-returns c = (
-  wrote-as (line-some (c .before .before .before .before .before .before .before .before .before .before .before .before .before .before .args .tag) (c .before .before .before .before .before .before .before .before .before .before .before .before .before .before .args .n) (c .before .before .before .before .before .before .before .before .before .before .before .before .if1 .taken)) (wrote-append (c .before .before .before .before .before .before .before .before .before .before .byte .ensures) (wrote-append (c .before .before .before .before .before .before .byte2 .ensures) (c .before .before .number .ensures .0))),
-  omega (arith, c .before .before .before .before .before .before .before .before .before .before .byte .ensures .next, c .before .before .before .before .before .before .byte2 .ensures .next, c .before .before .number .ensures .1),
-)
+returns c =
+    let tag = c .before .before .before .before .before .before .before .before .before .before .byte .ensures .fits (omega arith) in
+    let gap = c .before .before .before .before .before .before .byte2 .ensures .fits (omega (arith, tag .next)) in
+    let count = c .before .before .number .ensures .fits (omega (arith, tag .next, gap .next)) in (
+      wrote-as (line-some (c .before .before .before .before .before .before .before .before .before .before .before .before .before .before .args .tag) (c .before .before .before .before .before .before .before .before .before .before .before .before .before .before .args .n) (c .before .before .before .before .before .before .before .before .before .before .before .before .if1 .taken)) (wrote-append tag (wrote-append gap count)),
+      omega (arith, tag .next, gap .next, count .next, behind-long (c .before .before .before .before .before .before .before .before .before .before .before .before .before .before .args .n) 10 (search needs)),
+    )
 
 returns-2 : tie.Need-returns-2
 returns-2 c = (wrote-as (line-none (c .before .before .args .tag) (c .before .before .args .n) (c .if1 .left)) (wrote-none (c .before .before .args .out .now) (c .before .before .args .at) (omega arith)), omega arith)

@@ -1,7 +1,7 @@
 -- `tally_lines::messages_line` meets its contract.
 -- Assumes nothing.
 use native.Mathlib.Omega.{arith}
-use Rattle.text.proofs.Laws.{wrote-append}
+use Rattle.text.proofs.Laws.{behind-long, wrote-append}
 use Rattle.tally_lines.specs.Lines.{messagesOf}
 use borrow.Author.Needs.{needs}
 use Rattle.tally_lines.proofs.messages_line.Statement.{statement}
@@ -24,10 +24,14 @@ same-length c = search needs
 
 returns : tie.Need-returns
 unfolding messagesOf
-returns c = (
-  wrote-append (c .before .before .before .before .before .before .before .before .before .before .before .before .before .before .word .ensures) (wrote-append (c .before .before .before .before .before .before .before .before .before .before .word2 .ensures) (wrote-append (c .before .before .before .before .before .before .byte .ensures) (c .before .before .number .ensures .0))),
-  omega (arith, c .before .before .before .before .before .before .before .before .before .before .before .before .before .before .word .ensures .next, c .before .before .before .before .before .before .before .before .before .before .word2 .ensures .next, c .before .before .before .before .before .before .byte .ensures .next, c .before .before .number .ensures .1),
-)
+returns c =
+    let first = c .before .before .before .before .before .before .before .before .before .before .before .before .before .before .word .ensures .fits (omega arith) in
+    let second = c .before .before .before .before .before .before .before .before .before .before .word2 .ensures .fits (omega (arith, first .next)) in
+    let gap = c .before .before .before .before .before .before .byte .ensures .fits (omega (arith, first .next, second .next)) in
+    let count = c .before .before .number .ensures .fits (omega (arith, first .next, second .next, gap .next)) in (
+      wrote-append first (wrote-append second (wrote-append gap count)),
+      omega (arith, first .next, second .next, gap .next, count .next, behind-long (c .before .before .before .before .before .before .before .before .before .before .before .before .before .before .before .before .before .args .messages) 10 (search needs)),
+    )
 
 pub messages-line-spec : {M : Type 1} → statement M
 messages-line-spec =

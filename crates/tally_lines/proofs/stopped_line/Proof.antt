@@ -1,7 +1,7 @@
 -- `tally_lines::stopped_line` meets its contract.
 -- Assumes nothing.
 use native.Mathlib.Omega.{arith}
-use Rattle.text.proofs.Laws.{wrote-append}
+use Rattle.text.proofs.Laws.{behind-long, wrote-append}
 use Rattle.tally_lines.specs.Lines.{stoppedOf}
 use borrow.Author.Needs.{needs}
 use Rattle.tally_lines.proofs.stopped_line.Statement.{statement}
@@ -24,7 +24,13 @@ same-length c = search needs
 
 returns : tie.Need-returns
 unfolding stoppedOf
-returns c = wrote-append (c .before .before .before .before .before .before .before .before .before .before .before .before .before .before .word .ensures) (wrote-append (c .before .before .before .before .before .before .before .before .before .before .word2 .ensures) (wrote-append (c .before .before .before .before .before .before .number .ensures .0) (c .before .before .number2 .ensures .0)))
+returns c =
+    let first = c .before .before .before .before .before .before .before .before .before .before .before .before .before .before .word .ensures .fits (omega arith) in
+    let second = c .before .before .before .before .before .before .before .before .before .before .word2 .ensures .fits (omega (arith, first .next)) in
+    let number = c .before .before .before .before .before .before .number .ensures .fits (omega (arith, first .next, second .next)) in
+    let short = behind-long (c .before .before .before .before .before .before .before .before .before .before .before .before .before .before .before .before .before .args .stop) 32 (search needs) in
+    let place = c .before .before .number2 .ensures .fits (omega (arith, first .next, second .next, number .next, short)) in
+    wrote-append first (wrote-append second (wrote-append number place))
 
 pub stopped-line-spec : {M : Type 1} → statement M
 stopped-line-spec =

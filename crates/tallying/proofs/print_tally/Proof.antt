@@ -16,20 +16,22 @@ run-requires : tie.Need-run-requires
 unfolding sum
 run-requires c κs = record { all = refl; total = refl }
 
-slice-aggregate-tally : tie.Need-slice-aggregate-tally
-slice-aggregate-tally c = search needs
+slice-aggregate-put-tally : tie.Need-slice-aggregate-put-tally
+slice-aggregate-put-tally c = search needs
 
-slice-aggregate-tally-2 : tie.Need-slice-aggregate-tally-2
-slice-aggregate-tally-2 c = search needs
+slice-aggregate-put-tally-2 : tie.Need-slice-aggregate-put-tally-2
+slice-aggregate-put-tally-2 c = search needs
 
-tally-requires : tie.Need-tally-requires
-tally-requires c κs = (c .before .before .before .before .run .ensures .0 .all, search needs)
+put-tally-requires : tie.Need-put-tally-requires
+put-tally-requires c κs = search needs
 
 array-share-prefix-out : tie.Need-array-share-prefix-out
-array-share-prefix-out c = search needs
+array-share-prefix-out c = omega (arith, c .before .put-tally .ensures .inside)
 
 slice-aggregate-write-all : tie.Need-slice-aggregate-write-all
-slice-aggregate-write-all c = sym (length-take-le _ _ (omega (arith, c .before .before .tally .ensures .inside, wrote-long (c .before .before .tally .ensures))))
+slice-aggregate-write-all c =
+    let put = c .before .before .put-tally .ensures in
+    sym (length-take-le _ _ (omega (arith, put .inside, wrote-long put)))
 
 write-all-requires : tie.Need-write-all-requires
 write-all-requires c κs = search needs
@@ -52,9 +54,9 @@ print-tally-spec =
     (tie.spec
     slice-aggregate-run
     run-requires
-    slice-aggregate-tally
-    slice-aggregate-tally-2
-    tally-requires
+    slice-aggregate-put-tally
+    slice-aggregate-put-tally-2
+    put-tally-requires
     array-share-prefix-out
     slice-aggregate-write-all
     write-all-requires

@@ -5,9 +5,16 @@ use mathlib.Core.Path.{_≡_}
 use native.Mathlib.Numerals.{add-one}
 use native.Mathlib.Omega.{arith}
 use lib.ListN.{length-set}
+use Rattle.text.proofs.Laws.{puts-fits, puts-full}
 use borrow.Author.Needs.{needs}
 use Rattle.text.proofs.word.Statement.{statement}
 use Rattle.text.proofs.word.Tie as tie
+
+returns : tie.Need-returns
+returns c = puts-full (omega arith)
+
+returns-2 : tie.Need-returns-2
+returns-2 c = puts-full (omega arith)
 
 slice-write-out : tie.Need-slice-write-out
 slice-write-out c = search needs
@@ -36,16 +43,18 @@ add-result c = search needs
 same-length : tie.Need-same-length
 same-length c = search needs
 
-returns : tie.Need-returns
-returns c =
-    let two : c .args .at + 2 ≡ suc (suc (c .args .at)) = omega arith in
-    let three : c .args .at + 3 ≡ suc (suc (suc (c .args .at))) = omega arith in
-    record { bytes = rw (add-one, two, three); next = omega arith; inside = omega arith }
+returns-3 : tie.Need-returns-3
+returns-3 c =
+    let two : c .before .before .args .at + 2 ≡ suc (suc (c .before .before .args .at)) = omega arith in
+    let three : c .before .before .args .at + 3 ≡ suc (suc (suc (c .before .before .args .at))) = omega arith in
+    puts-fits (omega arith) (record { bytes = rw (add-one, two, three); next = omega arith; inside = omega arith })
 
 pub word-spec : {M : Type 1} → statement M
 word-spec =
     tie.close
     (tie.spec
+    returns
+    returns-2
     slice-write-out
     add-out
     slice-write-out-2
@@ -55,4 +64,4 @@ word-spec =
     slice-write-out-4
     add-result
     same-length
-    returns)
+    returns-3)

@@ -1,0 +1,59 @@
+// The closing lines of `frames`, put into a lent buffer: the tail and the totals.
+ghost use Prim.Native.Nat.{_+_, _≤_};
+ghost use lib.ListN.{length};
+ghost use Rattle.text.specs.Decimal.{Wrote, Puts};
+ghost use Rattle.lines.specs.Lines.{tailOf, totalOf};
+ghost use Rattle.closing.specs.Closing.{closesOf};
+use walk::Walk;
+
+fn tail(offset: u64, left: usize, out: &mut [u8], at: usize) -> usize
+    requires { ⌜ at + 47 ≤ length (now out) ⌝ }
+    ensures { λ r. ⌜ Wrote (tailOf offset left) (now (out .entry)) at (now (out .exit)) r ⌝ }
+{
+    let a = text::word(b't', b'a', b'i', b'l', out, at);
+    let b = text::byte(b' ', out, a);
+    let c = text::number(offset, b' ', out, b);
+    text::number(left as u64, b'\n', out, c)
+}
+
+fn total(frames: u64, accepted: u64, refused: u64, bytes: u64, out: &mut [u8], at: usize) -> usize
+    requires { ⌜ at + 90 ≤ length (now out) ⌝ }
+    ensures { λ r. ⌜ Wrote (totalOf frames accepted refused bytes) (now (out .entry)) at (now (out .exit)) r ⌝ }
+{
+    let a = text::word(b't', b'o', b't', b'a', out, at);
+    let b = text::byte(b'l', out, a);
+    let c = text::byte(b' ', out, b);
+    let d = text::number(frames, b' ', out, c);
+    let e = text::number(accepted, b' ', out, d);
+    let f = text::number(refused, b' ', out, e);
+    text::number(bytes, b'\n', out, f)
+}
+
+// The tail and the totals of a state: at most 137 bytes. Nothing is put where they find no room, or of a state that no walk comes to: more frames
+// accepted than there are, or more bytes than 64 bits count.
+pub fn closing(w: Walk, out: &mut [u8], at: usize) -> usize
+    ensures { λ r. ⌜ Puts 137 (closesOf w) (now (out .entry)) at (now (out .exit)) r ⌝ }
+{
+    let len = out.len();
+    if len < 137 {
+        return at;
+    }
+    if len - 137 < at {
+        return at;
+    }
+    let offset = w.offset;
+    let seen = w.seen;
+    let frames = w.frames;
+    let accepted = w.accepted;
+    if accepted > frames {
+        return at;
+    }
+    let left = seen as u64;
+    if offset > 18446744073709551615 - left {
+        return at;
+    }
+    let next = tail(offset, seen, out, at);
+    let refused = frames - accepted;
+    let bytes = offset + left;
+    total(frames, accepted, refused, bytes, out, next)
+}

@@ -1,0 +1,302 @@
+-- The loops that tell of frames, over plain values: what was told so far.
+-- Assumes nothing.
+use Prim.Native.Nat.{ℕ, _+_, _-_, _*_, _^_, _≤_, _<_, min}
+use mathlib.Core.Path.{_≡_, refl, sym, ap, subst, _∙_}
+use mathlib.Core.Bool.{Bool, true, false, cond, false≢true}
+use mathlib.Core.List.{List, [], _∷_, _++_, append-assoc, append-nil}
+use native.Mathlib.Omega.{arith}
+use types.Run.{OneOf, miss}
+use denote.Enum.Declared.{tagOf, declared}
+use borrow.Author.Tests.{ltb-false}
+use lib.Dec.{ltb}
+use lib.ListN.{length, take, drop, length-take, length-append}
+use Rattle.records.specs.declared.Message.{Message}
+use Rattle.reader.specs.declared.Window.{Window}
+use Rattle.reader.specs.declared.Window.the-variants.{Message as Message', Incomplete, Refused as Refused'}
+use Rattle.reader.specs.Window.{windowOf}
+use Rattle.laws.proofs.Answers.{covers}
+use Rattle.walk.specs.declared.Verdict.{Verdict}
+use Rattle.walk.specs.declared.Verdict.the-variants.{Accepted, Bad}
+use Rattle.walk.specs.Walk.{frameSize, verdictOf, countOf, judgeOf}
+use Rattle.walk.specs.Frames.{Entry, accepts}
+use Rattle.text.specs.Decimal.{decimalOf, Wrote}
+use Rattle.text.proofs.Laws.{decimal-20, wrote-none, wrote-append, wrote-as, wrote-long}
+use Rattle.lines.proofs.Halt.{enum}
+use Rattle.lines.specs.declared.Halt.{Halt}
+use Rattle.lines.specs.declared.Halted.{Halted}
+use Rattle.lines.specs.declared.Halt.the-variants.{Cut, Full, Bad as Refused}
+use Rattle.lines.specs.Lines.{acceptedOf, refusedOf, lineOf, linesOf}
+use Rattle.lines.specs.Blocks.{longest}
+use Rattle.lines.specs.Whole.{isFull, haltedOf, Cutting, entryAt, Ends, Frames, none, more, Halting, cut, full, refused, Halts, Goes}
+
+pub lines-append : (es fs : List Entry) → linesOf (es ++ fs) ≡ linesOf es ++ linesOf fs
+unfolding linesOf
+lines-append [] fs = refl
+lines-append (e ∷ es) fs = rw (lines-append es fs, append-assoc)
+
+pub lines-last : (es : List Entry) (e : Entry) → linesOf (es ++ (e ∷ [])) ≡ linesOf es ++ lineOf e
+unfolding linesOf
+lines-last es e = lines-append es (e ∷ []) ∙ rw (append-nil (lineOf e))
+
+pub accepts-append : (es fs : List Entry) → accepts (es ++ fs) ≡ accepts es + accepts fs
+unfolding accepts
+accepts-append [] fs = omega arith
+accepts-append (e ∷ es) fs = omega (arith, accepts-append es fs)
+
+pub accepts-last : (es : List Entry) (e : Entry) → accepts (es ++ (e ∷ [])) ≡ accepts es + countOf (e .what)
+unfolding accepts
+accepts-last es e = omega (arith, accepts-append es (e ∷ []))
+
+pub many-last : (es : List Entry) (e : Entry) → length (es ++ (e ∷ [])) ≡ length es + 1
+many-last es e = length-append es (e ∷ [])
+
+module _ (win : List ℕ → Window) (s : List ℕ) (have from offset : ℕ) (out₀ : List ℕ) (to : ℕ) where
+  -- so many accepted frames were told, up to place i, and their lines are in the buffer
+  pub record Telling (out : List ℕ) (i o count : ℕ) : Type 0 where
+    pub entries : List Entry
+    pub frames : Frames win s have from offset (length out₀) to entries i
+    pub many : length entries ≡ count
+    pub all : accepts entries ≡ count
+    pub text : Wrote (linesOf entries) out₀ to out o
+    pub ahead : from + count ≤ i
+    pub within : i ≤ have
+
+  pub telling-start : from ≤ have → to ≤ length out₀ → Telling out₀ from to 0
+  unfolding linesOf accepts
+  telling-start h g =
+      record { entries = []; frames = none; many = refl; all = refl; text = wrote-none out₀ to g; ahead = omega arith; within = h }
+
+  module _ (out : List ℕ) (i o count : ℕ) (T : Telling out i o count) where
+    pub telling-cut : Cutting s have i → (i < have → longest ≤ length out - o)
+        → Halts win s have from offset out₀ to out (record { at = i; to = o; count = count; why = Cut })
+    telling-cut h space =
+        record {
+          entries = T .entries;
+          frames = T .frames;
+          many = T .many;
+          all = T .all;
+          why = cut h (λ l. omega (arith, space l, T .text .inside, wrote-long (T .text))) (T .text);
+        }
+
+    pub telling-full : i < have → length out - o < longest → Halts win s have from offset out₀ to out (record { at = i; to = o; count = count; why = Full })
+    telling-full h r =
+        record {
+          entries = T .entries;
+          frames = T .frames;
+          many = T .many;
+          all = T .all;
+          why = full h (omega (arith, wrote-long (T .text))) (T .text);
+        }
+
+    -- a frame of this size begins here and ends within the bytes, and the offset of its line is put
+    module _ (size : ℕ) (E : Ends s have i) (z : size ≡ frameSize (drop i s)) (space : longest ≤ length out - o) (out' : List ℕ) (a : ℕ)
+        (p : Wrote (decimalOf (offset + (i - from))) out o out' a) where
+      roomy : to + length (linesOf (T .entries)) + longest ≤ length out₀
+      roomy = omega (arith, T .text .next, T .text .inside, wrote-long (T .text))
+
+      pub telling-refused : (v : Verdict) → v ≡ judgeOf win (drop i s) size → countOf v ≡ 0 → Halts win s have from offset out₀ to out' (haltedOf i a count v size)
+      telling-refused (Accepted m) e n = absurd (omega (arith, n))
+      telling-refused (Bad number place) e n =
+          let j : judgeOf win (drop i s) (frameSize (drop i s)) ≡ Bad number place = rw z at (sym e) in
+          record {
+            entries = T .entries;
+            frames = T .frames;
+            many = T .many;
+            all = T .all;
+            why = rw z (refused number place E roomy j (wrote-append (T .text) p));
+          }
+
+      pub telling-more : (m : Message) → judgeOf win (drop i s) size ≡ Accepted m → (out'' : List ℕ) (o' : ℕ) → Wrote (acceptedOf (m .tag) size) out' a out'' o'
+          → Telling out'' (i + size) o' (count + 1)
+      unfolding lineOf
+      telling-more m e out'' o' q =
+          let en = entryAt win s from offset i in
+          let j : judgeOf win (drop i s) (frameSize (drop i s)) ≡ Accepted m = rw z at e in
+          let q' : Wrote (acceptedOf (m .tag) (frameSize (drop i s))) out' a out'' o' = rw z at q in
+          let line : Wrote (lineOf en) out o out'' o' = rw j (wrote-append p q') in
+          record {
+            entries = T .entries ++ (en ∷ []);
+            frames = rw z (more (T .frames) E roomy);
+            many = omega (arith, many-last (T .entries) en, T .many);
+            all = omega (arith, accepts-last (T .entries) en, T .all, ap countOf j);
+            text = wrote-as (lines-last (T .entries) en) (wrote-append (T .text) line);
+            ahead = omega (arith, T .ahead);
+            within = omega (arith, E .whole, E .before);
+          }
+
+-- an accepted frame's size has two digits
+pub accepted-size : (s : List ℕ) (size : ℕ) (m : Message) → judgeOf windowOf s size ≡ Accepted m → (13 ≤ size) × (size ≤ 52)
+unfolding judgeOf
+accepted-size s size m = go (windowOf (take (min size 52) s)) refl
+  where
+    go : (w : Window) → windowOf (take (min size 52) s) ≡ w → verdictOf w size ≡ Accepted m → (13 ≤ size) × (size ≤ 52)
+    go Incomplete e v = absurd (omega (arith, ap countOf v))
+    go (Refused' number place) e v = absurd (omega (arith, ap countOf v))
+    go (Message' n used) e v = by (ltb used size) refl v
+      where
+        by : (b : Bool) → ltb used size ≡ b → cond b (Bad 21 0) (Accepted n) ≡ Accepted m → (13 ≤ size) × (size ≤ 52)
+        by true l x = absurd (omega (arith, ap countOf x))
+        by false l x =
+            let q = covers (take (min size 52) s) n used e in
+            let long = length-take (min size 52) s in
+            (omega (arith, q .2, q .1, long, ltb-false used size l), omega (arith, q .1, long, ltb-false used size l))
+
+-- ---- the loop over all frames
+
+module _ (win : List ℕ → Window) (s : List ℕ) (have : ℕ) where
+  -- each frame has two bytes or more
+  pub frames-far : {from offset long to j : ℕ} {es : List Entry} → from ≤ have → Frames win s have from offset long to es j
+      → (from + 2 * length es ≤ j) × (j ≤ have)
+  frames-far h none = (omega arith, h)
+  frames-far {from} {offset} {long} {to} h (more {es} {j} F E r) =
+      let f = frames-far h F in
+      (omega (arith, f .0, many-last es (entryAt win s from offset j)), omega (arith, E .whole, E .before))
+
+  -- frames, and more frames behind them
+  pub frames-join : {from offset long to i off o end : ℕ} {ds es : List Entry} → from ≤ i → off ≡ offset + (i - from) → o ≡ to + length (linesOf ds)
+      → i ≤ have → Frames win s have from offset long to ds i → Frames win s have i off long o es end → Frames win s have from offset long to (ds ++ es) end
+  frames-join {from} {offset} {long} {to} {i} {off} {o} {end} {ds} h e t w F none = rw (append-nil ds) F
+  frames-join {from} {offset} {long} {to} {i} {off} {o} {end} {ds} h e t w F (more {es} {j} G E r) =
+      let f = frames-far w G in
+      let at : off + (j - i) ≡ offset + (j - from) = omega (arith, e, f .0) in
+      let lines = ap length (lines-append ds es) ∙ length-append (linesOf ds) (linesOf es) in
+      rw (at, ← append-assoc ds es (entryAt win s from offset j ∷ [])) (more (frames-join h e t w F G) E (omega (arith, r, t, lines)))
+
+module _ (win : List ℕ → Window) (s : List ℕ) (have from offset frames accepted : ℕ) (out₀ : List ℕ) (to : ℕ) where
+  -- these frames were told, up to place i, and counted
+  pub record Passing (out : List ℕ) (i o off fr acc : ℕ) : Type 0 where
+    pub entries : List Entry
+    pub run : Frames win s have from offset (length out₀) to entries i
+    pub text : Wrote (linesOf entries) out₀ to out o
+    pub past : off ≡ offset + (i - from)
+    pub told : fr ≡ frames + length entries
+    pub good : acc ≡ accepted + accepts entries
+    pub ahead : from ≤ i
+    pub within : i ≤ have
+    pub two : 2 * fr ≤ off
+    pub counted : acc ≤ fr
+
+  pub passing-start : from ≤ have → to ≤ length out₀ → 2 * frames ≤ offset → accepted ≤ frames → Passing out₀ from to offset frames accepted
+  unfolding linesOf accepts
+  passing-start h g t c =
+      record {
+        entries = [];
+        run = none;
+        text = wrote-none out₀ to g;
+        past = omega arith;
+        told = omega arith;
+        good = omega arith;
+        ahead = omega arith;
+        within = h;
+        two = t;
+        counted = c;
+      }
+
+  module _ (out : List ℕ) (i o off fr acc : ℕ) (P : Passing out i o off fr acc) (out' : List ℕ) (r : Halted) (H : Halts win s have i off out o out' r) where
+    long : length out ≡ length out₀
+    long = wrote-long (P .text)
+
+    pub far : (i + 2 * r .count ≤ r .at) × (r .at ≤ have)
+    far = rw (H .many) at (frames-far win s have (P .within) (H .frames))
+
+    both : Frames win s have from offset (length out₀) to (P .entries ++ H .entries) (r .at)
+    both = frames-join win s have (P .ahead) (P .past) (P .text .next) (P .within) (P .run) (rw long at (H .frames))
+
+    all-lines : linesOf (P .entries ++ H .entries) ≡ linesOf (P .entries) ++ linesOf (H .entries)
+    all-lines = lines-append (P .entries) (H .entries)
+
+    many-both : length (P .entries ++ H .entries) ≡ length (P .entries) + r .count
+    many-both = length-append (P .entries) (H .entries) ∙ ap (λ (n : ℕ). length (P .entries) + n) (H .many)
+
+    good-both : accepts (P .entries ++ H .entries) ≡ accepts (P .entries) + r .count
+    good-both = accepts-append (P .entries) (H .entries) ∙ ap (λ (n : ℕ). accepts (P .entries) + n) (H .all)
+
+    -- no further: cut, or no room
+    pub passing-ends : (b : Bool) → b ≡ isFull (r .why) → ((number place size : ℕ) → r .why ≡ Refused number place size → ⊥)
+        → Goes win s have from offset frames accepted out₀ to out'
+        (record { at = r .at; to = r .to; offset = off + (r .at - i); frames = fr + r .count; accepted = acc + r .count; full = b })
+    passing-ends b e not-bad = go (r .why) (H .why) refl
+      where
+        ended : Wrote (linesOf (H .entries)) out o out' (r .to) → (b ≡ false → Cutting s have (r .at) × (r .at < have → r .to + longest ≤ length out₀)) → (b ≡ true → (r .at < have) × (length out₀ < r .to + longest))
+            → Goes win s have from offset frames accepted out₀ to out'
+            (record { at = r .at; to = r .to; offset = off + (r .at - i); frames = fr + r .count; accepted = acc + r .count; full = b })
+        ended w c f =
+            record {
+              entries = P .entries ++ H .entries;
+              run = both;
+              text = wrote-as all-lines (wrote-append (P .text) w);
+              past = omega (arith, P .past, P .ahead, far .0);
+              told = omega (arith, P .told, many-both);
+              good = omega (arith, P .good, good-both);
+              cut = c;
+              full = f;
+            }
+
+        go : (h : Halt) → Halting win s have i off out o (H .entries) (r .at) out' (r .to) h → r .why ≡ h
+            → Goes win s have from offset frames accepted out₀ to out'
+            (record { at = r .at; to = r .to; offset = off + (r .at - i); frames = fr + r .count; accepted = acc + r .count; full = b })
+        go _ (cut c space w) y = ended w (λ _. (c, λ l. omega (arith, space l, long))) (λ t. absurd (false≢true (sym (e ∙ ap isFull y) ∙ t)))
+        go _ (full lt room w) y = ended w (λ f. absurd (false≢true (sym f ∙ e ∙ ap isFull y))) (λ _. (lt, omega (arith, room, long)))
+        go _ (refused number place E room j w) y = absurd (not-bad number place _ y)
+
+    -- a refused frame: the rest of its line is put, and the frames behind it follow
+    pub passing-on : (number place size : ℕ) → r .why ≡ Refused number place size → (out'' : List ℕ) (o' : ℕ) → Wrote (refusedOf number place) out' (r .to) out'' o'
+        → Passing out'' (r .at + size) o' (off + (r .at - i) + size) (fr + r .count + 1) (acc + r .count)
+    unfolding lineOf
+    passing-on number place size y out'' o' q = go (r .why) (H .why) y
+      where
+        go : (h : Halt) → Halting win s have i off out o (H .entries) (r .at) out' (r .to) h → h ≡ Refused number place size
+            → Passing out'' (r .at + size) o' (off + (r .at - i) + size) (fr + r .count + 1) (acc + r .count)
+        go _ (cut c space w) z = let x : _≡_ {A = ℕ} 0 1 = cc in absurd (omega arith)
+        go _ (full lt room w) z = let x : _≡_ {A = ℕ} 0 1 = cc in absurd (omega arith)
+        go _ (refused n p E room j w) z =
+            let nn : n ≡ number = cc in
+            let pp : p ≡ place = cc in
+            let ss : frameSize (drop (r .at) s) ≡ size = cc in
+            let en = entryAt win s from offset (r .at) in
+            let at : offset + (r .at - from) ≡ off + (r .at - i) = omega (arith, P .past, P .ahead, far .0) in
+            let line : lineOf en ≡ decimalOf (off + (r .at - i)) ++ refusedOf number place = rw (at, j, nn, pp) in
+            let lines : linesOf ((P .entries ++ H .entries) ++ (en ∷ []))
+            ≡ (linesOf (P .entries) ++ (linesOf (H .entries) ++ decimalOf (off + (r .at - i)))) ++ refusedOf number place =
+            lines-last (P .entries ++ H .entries) en ∙ rw (all-lines, line) (simp append-assoc) in
+            let many = ap length all-lines ∙ length-append (linesOf (P .entries)) (linesOf (H .entries)) in
+            rw (← ss)
+            (record {
+              entries = (P .entries ++ H .entries) ++ (en ∷ []);
+              run = more both E (omega (arith, room, long, P .text .next, many));
+              text = wrote-as lines (wrote-append (wrote-append (P .text) w) q);
+              past = omega (arith, P .past, P .ahead, far .0);
+              told = omega (arith, P .told, many-both, many-last (P .entries ++ H .entries) en);
+              good = omega (arith, P .good, good-both, accepts-last (P .entries ++ H .entries) en, ap countOf j);
+              ahead = omega (arith, P .ahead, far .0);
+              within = omega (arith, E .whole, E .before);
+              two = omega (arith, P .two, far .0);
+              counted = omega (arith, P .counted);
+            })
+
+-- where the lines stop, the buffer is as long as before; at a refused frame there is room for the rest of its line
+module _ {win : List ℕ → Window} {s : List ℕ} {have i off : ℕ} {out : List ℕ} {o : ℕ} {out' : List ℕ} {r : Halted} (H : Halts win s have i off out o out' r) where
+  pub halts-long : length out' ≡ length out
+  halts-long = go (H .why)
+    where
+      go : {h : Halt} → Halting win s have i off out o (H .entries) (r .at) out' (r .to) h → length out' ≡ length out
+      go (cut c space w) = wrote-long w
+      go (full lt room w) = wrote-long w
+      go (refused number place E room j w) = wrote-long w
+
+  pub halts-bad : (number place size : ℕ) → r .why ≡ Refused number place size → off + (r .at - i) < 2 ^ 64
+      → (r .to + 51 ≤ length out') × (r .at < have) × (size ≤ have - r .at) × (2 ≤ size)
+  halts-bad number place size y f = go (r .why) (H .why) y
+    where
+      go : (h : Halt) → Halting win s have i off out o (H .entries) (r .at) out' (r .to) h → h ≡ Refused number place size
+          → (r .to + 51 ≤ length out') × (r .at < have) × (size ≤ have - r .at) × (2 ≤ size)
+      go _ (cut c space w) z = let x : _≡_ {A = ℕ} 0 1 = cc in absurd (omega arith)
+      go _ (full lt room w) z = let x : _≡_ {A = ℕ} 0 1 = cc in absurd (omega arith)
+      go _ (refused n p E room j w) z =
+          let ss : frameSize (drop (r .at) s) ≡ size = cc in
+          let l = length-append (linesOf (H .entries)) (decimalOf (off + (r .at - i))) in
+          (omega (arith, room, w .next, l, decimal-20 (off + (r .at - i)) f, wrote-long w), E .before, omega (arith, E .whole, ss), omega (arith, ss))
+
+-- where a `let .. else` went to its else, by the keys that the match has there
+pub not-bad : {h : Halt} → OneOf (0 ∷ 1 ∷ []) (tagOf (declared enum) h) → (number place size : ℕ) → h ≡ Refused number place size → ⊥
+not-bad k n p z e = miss (0 ∷ 1 ∷ []) 2 tt (subst (λ (x : Halt). OneOf (0 ∷ 1 ∷ []) (tagOf (declared enum) x)) e k)

@@ -1,0 +1,171 @@
+-- `lines::told_accepted` meets its contract.
+-- Assumes nothing.
+use Prim.Native.Nat.{_+_, _-_}
+use mathlib.Core.Path.{_≡_, sym, ap, _∙_}
+use mathlib.Core.Logic.{inl, inr}
+use Rattle.text.proofs.Laws.{decimal-20, wrote-long}
+use Rattle.walk.specs.Walk.{countOf}
+use Rattle.lines.proofs.Turns.{part-all}
+use Rattle.lines.proofs.Along.{size-here}
+use native.Mathlib.Omega.{arith}
+use lib.ListN.{length}
+use Rattle.reader.specs.Window.{windowOf}
+use Rattle.lines.proofs.Told.{Telling, telling-start, telling-cut, telling-full, telling-refused, telling-more, accepted-size}
+use borrow.Author.Needs.{needs}
+use Rattle.lines.proofs.told_accepted.Statement.{statement}
+use Rattle.lines.proofs.told_accepted.Tie as tie
+
+abbrev Inv-loop : tie.InvT-loop
+Inv-loop s have from offset table out₀ to i₀ o₀ count₀ out i o count = Telling windowOf s have from offset out₀ to out i o count
+
+abbrev μ-loop : tie.MeasureT-loop
+μ-loop s have from offset table out₀ to i₀ o₀ count₀ out i o count = have - i
+
+loop-holds : tie.Need-loop-holds Inv-loop μ-loop
+loop-holds c = telling-start windowOf _ _ _ _ _ _ (c .before .before .before .pre .begun) (c .before .before .before .pre .inside)
+
+same-length : tie.Need-same-length Inv-loop μ-loop
+same-length c = wrote-long (c .before .loop .inv .text)
+
+returns : tie.Need-returns Inv-loop μ-loop
+returns c = telling-cut windowOf _ _ _ _ _ _ _ _ _ _ (c .before .loop .inv) (inl (c .if1 .taken)) (λ l. absurd (omega (arith, l, c .if1 .taken)))
+
+sub-if2 : tie.Need-sub-if2 Inv-loop μ-loop
+sub-if2 c = omega (arith, c .before .loop .inv .text .inside, wrote-long (c .before .loop .inv .text))
+
+same-length-2 : tie.Need-same-length-2 Inv-loop μ-loop
+same-length-2 c = wrote-long (c .before .before .loop .inv .text)
+
+returns-2 : tie.Need-returns-2 Inv-loop μ-loop
+returns-2 c = telling-full windowOf _ _ _ _ _ _ _ _ _ _ (c .before .before .loop .inv) (c .before .if1 .left) (c .if2 .taken)
+
+add-if3 : tie.Need-add-if3 Inv-loop μ-loop
+add-if3 c = omega (arith, c .before .if1 .left)
+
+same-length-3 : tie.Need-same-length-3 Inv-loop μ-loop
+same-length-3 c = wrote-long (c .before .before .before .loop .inv .text)
+
+returns-3 : tie.Need-returns-3 Inv-loop μ-loop
+returns-3 c = telling-cut windowOf _ _ _ _ _ _ _ _ _ _ (c .before .before .before .loop .inv) (inr (inl (c .if3 .taken))) (λ _. c .before .if2 .left)
+
+shared-slice-read-size-by : tie.Need-shared-slice-read-size-by Inv-loop μ-loop
+shared-slice-read-size-by c = omega (arith, c .before .if3 .left)
+
+add-size-by : tie.Need-add-size-by Inv-loop μ-loop
+add-size-by c = omega (arith, c .before .if3 .left)
+
+shared-slice-read-size-by-2 : tie.Need-shared-slice-read-size-by-2 Inv-loop μ-loop
+shared-slice-read-size-by-2 c = omega (arith, c .before .before .if3 .left)
+
+size-by-requires : tie.Need-size-by-requires Inv-loop μ-loop
+size-by-requires c κs = search needs
+
+sub-if4 : tie.Need-sub-if4 Inv-loop μ-loop
+sub-if4 c = omega (arith, c .before .before .before .before .before .if1 .left)
+
+same-length-4 : tie.Need-same-length-4 Inv-loop μ-loop
+same-length-4 c = wrote-long (c .before .before .before .before .before .before .before .loop .inv .text)
+
+returns-4 : tie.Need-returns-4 Inv-loop μ-loop
+returns-4 c = telling-cut windowOf _ _ _ _ _ _ _ _ _ _ (c .before .before .before .before .before .before .before .loop .inv) (inr (inr (rw (← size-here (c .before .before .before .before .before .before .before .before .before .before .before .args .s .now) (c .before .before .before .before .before .before .before .loop .i) (c .before .size-by .result) (omega (arith, c .before .before .before .before .if3 .left)) (c .before .size-by .ensures)) (c .if4 .taken)))) (λ _. c .before .before .before .before .before .if2 .left)
+
+sub-offset-text : tie.Need-sub-offset-text Inv-loop μ-loop
+sub-offset-text c = omega (arith, c .before .before .before .before .before .before .before .loop .inv .ahead)
+
+add-offset-text : tie.Need-add-offset-text Inv-loop μ-loop
+add-offset-text c = omega (arith, c .before .before .before .before .before .before .before .before .before .before .before .pre .fits, c .before .before .before .before .before .before .if1 .left, c .before .before .before .before .before .before .before .loop .inv .ahead)
+
+offset-text-requires : tie.Need-offset-text-requires Inv-loop μ-loop
+offset-text-requires c κs = (c .before .before .before .before .before .before .before .before .before .before .before .before .pre .digits, omega (arith, c .before .before .before .before .before .before .if2 .left))
+
+sub-judge : tie.Need-sub-judge Inv-loop μ-loop
+sub-judge c = omega (arith, c .before .before .before .before .before .before .before .before .if3 .left)
+
+part-judge-start : tie.Need-part-judge-start Inv-loop μ-loop
+part-judge-start c = omega (arith, c .before .before .before .before .before .before .before .before .if3 .left)
+
+part-judge-end : tie.Need-part-judge-end Inv-loop μ-loop
+part-judge-end c = omega (arith, c .before .before .before .before .before .before .before .before .if3 .left)
+
+judge-requires : tie.Need-judge-requires Inv-loop μ-loop
+judge-requires c κs = search needs
+
+enum-known-what : tie.Need-enum-known-what Inv-loop μ-loop
+enum-known-what c = search needs
+
+enum-told : tie.Need-enum-told Inv-loop μ-loop
+enum-told c = search needs
+
+stopped-at-requires : tie.Need-stopped-at-requires Inv-loop μ-loop
+stopped-at-requires c κs = search needs
+
+same-length-5 : tie.Need-same-length-5 Inv-loop μ-loop
+same-length-5 c = wrote-long (c .before .before .before .before .before .before .before .offset-text .ensures) ∙ wrote-long (c .before .before .before .before .before .before .before .before .before .before .before .before .before .before .before .before .loop .inv .text)
+
+returns-5 : tie.Need-returns-5 Inv-loop μ-loop
+returns-5 c =
+    let z = (size-here (c .before .before .before .before .before .before .before .before .before .before .before .before .before .before .before .before .before .before .before .before .args .s .now) (c .before .before .before .before .before .before .before .before .before .before .before .before .before .before .before .before .loop .i) (c .before .before .before .before .before .before .before .before .before .before .size-by .result) (omega (arith, c .before .before .before .before .before .before .before .before .before .before .before .before .before .if3 .left)) (c .before .before .before .before .before .before .before .before .before .before .size-by .ensures)) in
+    let e = rw (part-all (c .before .before .before .before .before .before .before .before .before .before .before .before .before .before .before .before .before .before .before .before .args .s .now) (c .before .before .before .before .before .before .before .before .before .before .before .before .before .before .before .before .loop .i)) at (c .before .before .before .judge .ensures) in
+    rw (c .stopped-at .ensures) (telling-refused windowOf _ _ _ _ _ _ _ _ _ _ (c .before .before .before .before .before .before .before .before .before .before .before .before .before .before .before .before .loop .inv) (c .before .before .before .before .before .before .before .before .before .before .size-by .result) (record { before = c .before .before .before .before .before .before .before .before .before .before .before .before .before .before .before .if1 .left; sized = omega (arith, c .before .before .before .before .before .before .before .before .before .before .before .before .before .if3 .left); whole = omega (arith, z, c .before .before .before .before .before .before .before .before .before .if4 .left) }) z (c .before .before .before .before .before .before .before .before .before .before .before .before .before .before .if2 .left) _ _ (c .before .before .before .before .before .before .before .offset-text .ensures) (c .before .before .before .judge .result) e (ap countOf (c .before .enum-told .given .1)))
+
+accepted-requires : tie.Need-accepted-requires Inv-loop μ-loop
+accepted-requires c κs =
+    let z = (size-here (c .before .before .before .before .before .before .before .before .before .before .before .before .before .before .before .before .before .before .before .before .before .args .s .now) (c .before .before .before .before .before .before .before .before .before .before .before .before .before .before .before .before .before .loop .i) (c .before .before .before .before .before .before .before .before .before .before .before .size-by .result) (omega (arith, c .before .before .before .before .before .before .before .before .before .before .before .before .before .before .if3 .left)) (c .before .before .before .before .before .before .before .before .before .before .before .size-by .ensures)) in
+    let e = rw (part-all (c .before .before .before .before .before .before .before .before .before .before .before .before .before .before .before .before .before .before .before .before .before .args .s .now) (c .before .before .before .before .before .before .before .before .before .before .before .before .before .before .before .before .before .loop .i)) at (c .before .before .before .before .judge .ensures) in
+    let d = accepted-size _ _ _ (sym e ∙ c .before .before .what .given .1) in
+    (omega (arith, d .0), omega (arith, d .1), c .before .before .before .before .before .before .before .before .before .before .before .before .before .before .before .before .before .before .before .before .before .pre .digits, omega (arith, c .before .before .before .before .before .before .before .before .before .before .before .before .before .before .before .if2 .left, c .before .before .before .before .before .before .before .before .offset-text .ensures .next, wrote-long (c .before .before .before .before .before .before .before .before .offset-text .ensures), decimal-20 (c .before .before .before .before .before .before .before .before .before .before .before .before .before .before .before .before .before .before .before .before .before .args .offset + (c .before .before .before .before .before .before .before .before .before .before .before .before .before .before .before .before .before .loop .i - c .before .before .before .before .before .before .before .before .before .before .before .before .before .before .before .before .before .before .before .before .before .args .from)) (omega (arith, c .before .before .before .before .before .before .before .before .before .before .before .before .before .before .before .before .before .before .before .before .before .pre .fits, c .before .before .before .before .before .before .before .before .before .before .before .before .before .before .before .before .if1 .left, c .before .before .before .before .before .before .before .before .before .before .before .before .before .before .before .before .before .loop .inv .ahead))))
+
+add-i : tie.Need-add-i Inv-loop μ-loop
+add-i c = omega (arith, c .before .before .before .before .before .before .before .before .before .before .before .before .before .if4 .left, c .before .before .before .before .before .before .before .before .before .before .before .before .before .before .before .before .before .before .before .if1 .left)
+
+add-count : tie.Need-add-count Inv-loop μ-loop
+add-count c = omega (arith, c .before .before .before .before .before .before .before .before .before .before .before .before .before .before .before .before .before .before .before .before .loop .inv .ahead, c .before .before .before .before .before .before .before .before .before .before .before .before .before .before .before .before .before .before .before .before .loop .inv .within)
+
+loop-less : tie.Need-loop-less Inv-loop μ-loop
+loop-less c = omega (arith, c .before .before .before .before .before .before .before .before .before .before .before .before .before .if4 .left, c .before .before .before .before .before .before .before .before .before .before .before .before .before .before .before .before .before .before .before .if1 .left, c .before .before .before .before .before .before .before .before .before .before .before .before .before .before .size-by .ensures)
+
+loop-again : tie.Need-loop-again Inv-loop μ-loop
+loop-again c =
+    let z = (size-here (c .before .before .before .before .before .before .before .before .before .before .before .before .before .before .before .before .before .before .before .before .before .before .before .before .args .s .now) (c .before .before .before .before .before .before .before .before .before .before .before .before .before .before .before .before .before .before .before .before .loop .i) (c .before .before .before .before .before .before .before .before .before .before .before .before .before .before .size-by .result) (omega (arith, c .before .before .before .before .before .before .before .before .before .before .before .before .before .before .before .before .before .if3 .left)) (c .before .before .before .before .before .before .before .before .before .before .before .before .before .before .size-by .ensures)) in
+    let e = rw (part-all (c .before .before .before .before .before .before .before .before .before .before .before .before .before .before .before .before .before .before .before .before .before .before .before .before .args .s .now) (c .before .before .before .before .before .before .before .before .before .before .before .before .before .before .before .before .before .before .before .before .loop .i)) at (c .before .before .before .before .before .before .before .judge .ensures) in
+    telling-more windowOf _ _ _ _ _ _ _ _ _ _ (c .before .before .before .before .before .before .before .before .before .before .before .before .before .before .before .before .before .before .before .before .loop .inv) (c .before .before .before .before .before .before .before .before .before .before .before .before .before .before .size-by .result) (record { before = c .before .before .before .before .before .before .before .before .before .before .before .before .before .before .before .before .before .before .before .if1 .left; sized = omega (arith, c .before .before .before .before .before .before .before .before .before .before .before .before .before .before .before .before .before .if3 .left); whole = omega (arith, z, c .before .before .before .before .before .before .before .before .before .before .before .before .before .if4 .left) }) z (c .before .before .before .before .before .before .before .before .before .before .before .before .before .before .before .before .before .before .if2 .left) _ _ (c .before .before .before .before .before .before .before .before .before .before .before .offset-text .ensures) _ (sym e ∙ c .before .before .before .before .before .what .given .1) _ _ (c .before .before .accepted .ensures)
+
+pub told-accepted-spec : {M : Type 1} → statement M
+told-accepted-spec =
+    tie.close
+    (tie.spec
+    Inv-loop
+    μ-loop
+    loop-holds
+    same-length
+    returns
+    sub-if2
+    same-length-2
+    returns-2
+    add-if3
+    same-length-3
+    returns-3
+    shared-slice-read-size-by
+    add-size-by
+    shared-slice-read-size-by-2
+    size-by-requires
+    sub-if4
+    same-length-4
+    returns-4
+    sub-offset-text
+    add-offset-text
+    offset-text-requires
+    sub-judge
+    part-judge-start
+    part-judge-end
+    judge-requires
+    enum-known-what
+    enum-told
+    stopped-at-requires
+    same-length-5
+    returns-5
+    accepted-requires
+    add-i
+    add-count
+    loop-less
+    loop-again)

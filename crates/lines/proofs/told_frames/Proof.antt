@@ -1,0 +1,108 @@
+-- `lines::told_frames` meets its contract.
+-- Assumes nothing.
+use Prim.Native.Nat.{_-_}
+use mathlib.Core.Path.{_≡_, _∙_}
+use native.Mathlib.Omega.{arith}
+use Rattle.reader.specs.Window.{windowOf}
+use Rattle.text.proofs.Laws.{wrote-long}
+use Rattle.lines.proofs.Told.{Passing, passing-start, far, passing-ends, passing-on, halts-long, halts-bad, not-bad}
+use borrow.Author.Needs.{needs}
+use Rattle.lines.proofs.told_frames.Statement.{statement}
+use Rattle.lines.proofs.told_frames.Tie as tie
+use Rattle.lines.proofs.told_frames.Reads as reads
+use Rattle.lines.proofs.told_frames.Lts as lts
+use Rattle.lines.proofs.is_full.Reads as is-full-reads
+use Rattle.lines.proofs.refused.Reads as refused-reads
+use Rattle.lines.proofs.told_accepted.Reads as told-accepted-reads
+
+abbrev Inv-loop : tie.InvT-loop
+Inv-loop s have from table out₀ to offset frames accepted i₀ o₀ off₀ fr₀ acc₀ out i o off fr acc =
+    Passing windowOf s have from offset frames accepted out₀ to out i o off fr acc
+
+abbrev μ-loop : tie.MeasureT-loop
+μ-loop s have from table out₀ to offset frames accepted i₀ o₀ off₀ fr₀ acc₀ out i o off fr acc = have - i
+
+loop-holds : tie.Need-loop-holds Inv-loop μ-loop
+loop-holds c = passing-start windowOf _ _ _ _ _ _ _ _ (c .before .before .before .pre .0 .begun) (c .before .before .before .pre .0 .inside) (c .before .before .before .pre .1) (c .before .before .before .pre .2)
+
+told-accepted-requires : tie.Need-told-accepted-requires Inv-loop μ-loop
+told-accepted-requires c κs =
+    record {
+      begun = c .before .loop .inv .within;
+      fits = omega (arith, c .before .loop .inv .past, c .before .loop .inv .ahead, c .before .loop .inv .within, c .before .before .before .before .before .pre .0 .fits);
+      digits = c .before .before .before .before .before .pre .0 .digits;
+      inside = omega (arith, c .before .loop .inv .text .inside, wrote-long (c .before .loop .inv .text));
+    }
+
+sub-past : tie.Need-sub-past Inv-loop μ-loop
+sub-past c = omega (arith, far windowOf _ _ _ _ _ _ _ _ _ _ _ _ _ _ (c .before .before .before .before .loop .inv) _ _ (c .before .before .told-accepted .ensures) .0)
+
+add-past : tie.Need-add-past Inv-loop μ-loop
+add-past c = omega (arith, far windowOf _ _ _ _ _ _ _ _ _ _ _ _ _ _ (c .before .before .before .before .loop .inv) _ _ (c .before .before .told-accepted .ensures), c .before .before .before .before .loop .inv .past, c .before .before .before .before .loop .inv .ahead, c .before .before .before .before .before .before .before .before .pre .0 .fits)
+
+add-told : tie.Need-add-told Inv-loop μ-loop
+add-told c = omega (arith, far windowOf _ _ _ _ _ _ _ _ _ _ _ _ _ _ (c .before .before .before .before .before .loop .inv) _ _ (c .before .before .before .told-accepted .ensures), c .before .before .before .before .before .loop .inv .past, c .before .before .before .before .before .loop .inv .ahead, c .before .before .before .before .before .loop .inv .two, c .before .before .before .before .before .before .before .before .before .pre .0 .fits)
+
+add-good : tie.Need-add-good Inv-loop μ-loop
+add-good c = omega (arith, far windowOf _ _ _ _ _ _ _ _ _ _ _ _ _ _ (c .before .before .before .before .before .before .loop .inv) _ _ (c .before .before .before .before .told-accepted .ensures), c .before .before .before .before .before .before .loop .inv .past, c .before .before .before .before .before .before .loop .inv .ahead, c .before .before .before .before .before .before .loop .inv .two, c .before .before .before .before .before .before .loop .inv .counted, c .before .before .before .before .before .before .before .before .before .before .pre .0 .fits)
+
+enum-known-why : tie.Need-enum-known-why Inv-loop μ-loop
+enum-known-why c = search needs
+
+is-full-requires : tie.Need-is-full-requires Inv-loop μ-loop
+is-full-requires c κs = search needs
+
+same-length : tie.Need-same-length Inv-loop μ-loop
+same-length c = halts-long (c .before .before .before .before .before .before .told-accepted .ensures) ∙ wrote-long (c .before .before .before .before .before .before .before .before .loop .inv .text)
+
+returns : tie.Need-returns Inv-loop μ-loop
+returns c = passing-ends windowOf _ _ _ _ _ _ _ _ _ _ _ _ _ _ (c .before .before .before .before .before .before .before .before .loop .inv) _ _ (c .before .before .before .before .before .before .told-accepted .ensures) _ (c .is-full .ensures) (not-bad (c .before .match .keys2))
+
+refused-requires : tie.Need-refused-requires Inv-loop μ-loop
+refused-requires c κs = halts-bad (c .before .before .before .before .before .before .before .before .told-accepted .ensures) _ _ _ (c .before .before .why .given .1) (omega (arith, far windowOf _ _ _ _ _ _ _ _ _ _ _ _ _ _ (c .before .before .before .before .before .before .before .before .before .before .loop .inv) _ _ (c .before .before .before .before .before .before .before .before .told-accepted .ensures), c .before .before .before .before .before .before .before .before .before .before .loop .inv .past, c .before .before .before .before .before .before .before .before .before .before .loop .inv .ahead, c .before .before .before .before .before .before .before .before .before .before .before .before .before .before .pre .0 .fits)) .0
+
+add-i : tie.Need-add-i Inv-loop μ-loop
+add-i c =
+    let b = halts-bad (c .before .before .before .before .before .before .before .before .before .before .before .told-accepted .ensures) _ _ _ (c .before .before .before .before .before .why .given .1) (omega (arith, far windowOf _ _ _ _ _ _ _ _ _ _ _ _ _ _ (c .before .before .before .before .before .before .before .before .before .before .before .before .before .loop .inv) _ _ (c .before .before .before .before .before .before .before .before .before .before .before .told-accepted .ensures), c .before .before .before .before .before .before .before .before .before .before .before .before .before .loop .inv .past, c .before .before .before .before .before .before .before .before .before .before .before .before .before .loop .inv .ahead, c .before .before .before .before .before .before .before .before .before .before .before .before .before .before .before .before .before .pre .0 .fits)) in
+    omega (arith, b .1, b .2)
+
+add-off : tie.Need-add-off Inv-loop μ-loop
+add-off c =
+    let b = halts-bad (c .before .before .before .before .before .before .before .before .before .before .before .told-accepted .ensures) _ _ _ (c .before .before .before .before .before .why .given .1) (omega (arith, far windowOf _ _ _ _ _ _ _ _ _ _ _ _ _ _ (c .before .before .before .before .before .before .before .before .before .before .before .before .before .loop .inv) _ _ (c .before .before .before .before .before .before .before .before .before .before .before .told-accepted .ensures), c .before .before .before .before .before .before .before .before .before .before .before .before .before .loop .inv .past, c .before .before .before .before .before .before .before .before .before .before .before .before .before .loop .inv .ahead, c .before .before .before .before .before .before .before .before .before .before .before .before .before .before .before .before .before .pre .0 .fits)) in
+    omega (arith, b .1, b .2, far windowOf _ _ _ _ _ _ _ _ _ _ _ _ _ _ (c .before .before .before .before .before .before .before .before .before .before .before .before .before .loop .inv) _ _ (c .before .before .before .before .before .before .before .before .before .before .before .told-accepted .ensures), c .before .before .before .before .before .before .before .before .before .before .before .before .before .loop .inv .past, c .before .before .before .before .before .before .before .before .before .before .before .before .before .loop .inv .ahead, c .before .before .before .before .before .before .before .before .before .before .before .before .before .before .before .before .before .pre .0 .fits)
+
+add-fr : tie.Need-add-fr Inv-loop μ-loop
+add-fr c =
+    let b = halts-bad (c .before .before .before .before .before .before .before .before .before .before .before .told-accepted .ensures) _ _ _ (c .before .before .before .before .before .why .given .1) (omega (arith, far windowOf _ _ _ _ _ _ _ _ _ _ _ _ _ _ (c .before .before .before .before .before .before .before .before .before .before .before .before .before .loop .inv) _ _ (c .before .before .before .before .before .before .before .before .before .before .before .told-accepted .ensures), c .before .before .before .before .before .before .before .before .before .before .before .before .before .loop .inv .past, c .before .before .before .before .before .before .before .before .before .before .before .before .before .loop .inv .ahead, c .before .before .before .before .before .before .before .before .before .before .before .before .before .before .before .before .before .pre .0 .fits)) in
+    omega (arith, b .1, b .2, b .3, far windowOf _ _ _ _ _ _ _ _ _ _ _ _ _ _ (c .before .before .before .before .before .before .before .before .before .before .before .before .before .loop .inv) _ _ (c .before .before .before .before .before .before .before .before .before .before .before .told-accepted .ensures), c .before .before .before .before .before .before .before .before .before .before .before .before .before .loop .inv .past, c .before .before .before .before .before .before .before .before .before .before .before .before .before .loop .inv .ahead, c .before .before .before .before .before .before .before .before .before .before .before .before .before .loop .inv .two, c .before .before .before .before .before .before .before .before .before .before .before .before .before .before .before .before .before .pre .0 .fits)
+
+loop-less : tie.Need-loop-less Inv-loop μ-loop
+loop-less c =
+    let b = halts-bad (c .before .before .before .before .before .before .before .before .before .before .before .told-accepted .ensures) _ _ _ (c .before .before .before .before .before .why .given .1) (omega (arith, far windowOf _ _ _ _ _ _ _ _ _ _ _ _ _ _ (c .before .before .before .before .before .before .before .before .before .before .before .before .before .loop .inv) _ _ (c .before .before .before .before .before .before .before .before .before .before .before .told-accepted .ensures), c .before .before .before .before .before .before .before .before .before .before .before .before .before .loop .inv .past, c .before .before .before .before .before .before .before .before .before .before .before .before .before .loop .inv .ahead, c .before .before .before .before .before .before .before .before .before .before .before .before .before .before .before .before .before .pre .0 .fits)) in
+    omega (arith, b .1, b .2, b .3, far windowOf _ _ _ _ _ _ _ _ _ _ _ _ _ _ (c .before .before .before .before .before .before .before .before .before .before .before .before .before .loop .inv) _ _ (c .before .before .before .before .before .before .before .before .before .before .before .told-accepted .ensures), c .before .before .before .before .before .before .before .before .before .before .before .before .before .loop .inv .within)
+
+loop-again : tie.Need-loop-again Inv-loop μ-loop
+loop-again c = passing-on windowOf _ _ _ _ _ _ _ _ _ _ _ _ _ _ (c .before .before .before .before .before .before .before .before .before .before .before .before .before .loop .inv) _ _ (c .before .before .before .before .before .before .before .before .before .before .before .told-accepted .ensures) _ _ _ (c .before .before .before .before .before .why .given .1) _ _ (c .before .before .refused .ensures)
+
+pub told-frames-spec : {M : Type 1} → statement M
+told-frames-spec =
+    tie.close
+    (tie.spec
+    Inv-loop
+    μ-loop
+    loop-holds
+    told-accepted-requires
+    sub-past
+    add-past
+    add-told
+    add-good
+    enum-known-why
+    is-full-requires
+    same-length
+    returns
+    refused-requires
+    add-i
+    add-off
+    add-fr
+    loop-less
+    loop-again)

@@ -1,0 +1,25 @@
+-- `text::byte` meets its contract.
+-- Assumes nothing.
+use native.Mathlib.Omega.{arith}
+use Rattle.text.proofs.Laws.{wrote-byte, puts-fits, puts-full}
+use borrow.Author.Needs.{needs}
+use Rattle.text.proofs.byte.Statement.{statement}
+use Rattle.text.proofs.byte.Tie as tie
+
+returns : tie.Need-returns
+returns c = puts-full (omega arith)
+
+slice-write-out : tie.Need-slice-write-out
+slice-write-out c = search needs
+
+add-result : tie.Need-add-result
+add-result c = search needs
+
+same-length : tie.Need-same-length
+same-length c = search needs
+
+returns-2 : tie.Need-returns-2
+returns-2 c = puts-fits (omega arith) (wrote-byte _ _ _ (omega arith))
+
+pub byte-spec : {M : Type 1} → statement M
+byte-spec = tie.close (tie.spec returns slice-write-out add-result same-length returns-2)
