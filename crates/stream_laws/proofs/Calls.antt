@@ -150,7 +150,7 @@ told-step s n _ (32-told _) = record { calls = refl; messages = refl; some = λ 
 told-step s n _ (33-told _) = record { calls = refl; messages = refl; some = λ e. let z : _≡_ {A = ℕ} 0 1 = cc in absurd (omega arith); ends = λ _. refl }
 told-step s n _ (came h a b d) = record { calls = refl; messages = refl; some = λ _. a; ends = λ f. absurd (f refl) }
 told-step s n _ (nothing h z e) = record { calls = refl; messages = refl; some = λ e. let z : _≡_ {A = ℕ} 0 1 = cc in absurd (omega arith); ends = λ _. refl }
-told-step s n _ (marked-told h z) =
+told-step s n _ (marked-told h z _) =
     let k = marks-kept s 10 0 in
     record { calls = k .calls; messages = k .messages; some = λ e. absurd (no-ready (marks s 10 0 .answer) (marks-stops s 10 0) e); ends = λ _. marks-stops s 10 0 }
 

@@ -57,7 +57,7 @@ told-not s n _ (32-told _) h e = omega arith
 told-not s n _ (33-told _) h e = omega arith
 told-not s n _ (came g a c d) h e = omega arith
 told-not s n _ (nothing g z d) h e = omega arith
-told-not s n _ (marked-told g z) h e = marks-not s 10 0 (omega arith) e
+told-not s n _ (marked-told g z _) h e = marks-not s 10 0 (omega arith) e
 
 failed-not : (s : Stream) (x : Step) → Failed s x → Sound s → Not30 x
 failed-not s _ (30-failed f) h e = f h

@@ -17,14 +17,14 @@ use Rattle.reader.specs.Window.{windowFrom, windowOf}
 data Field : Got → Type 0 where
   value : {v : List ℕ} → Field (got v)
   cut : Field short
-  bad : {n p : ℕ} → n ≤ 3 → Field (refused n p)
+  bad : {n p : ℕ} → (1 ≤ n) × (n ≤ 3) → Field (refused n p)
 
 data Whole : Answer → Type 0 where
   read-all : {vs : List ℕ} {n : ℕ} → Whole (accepted vs n)
   not-there : Whole incomplete
-  low : {n p : ℕ} → n ≤ 3 → Whole (refuses n p)
+  low : {n p : ℕ} → (1 ≤ n) × (n ≤ 3) → Whole (refuses n p)
 
-judged : (b : Bool) (v : List ℕ) (n at : ℕ) → n ≤ 3 → Field (placed at (cond b (fine v) (wrong n 0)))
+judged : (b : Bool) (v : List ℕ) (n at : ℕ) → (1 ≤ n) × (n ≤ 3) → Field (placed at (cond b (fine v) (wrong n 0)))
 judged true v n at h = value
 judged false v n at h = bad h
 
@@ -32,10 +32,10 @@ judge-low : (k : Kind) (bs : List ℕ) (at : ℕ) → Field (placed at (judge k 
 unfolding judge
 judge-low (num w) bs at = value
 judge-low time bs at = value
-judge-low (text w) bs at = judged (wellFormed bs) (be bs ∷ []) 3 at (omega arith)
-judge-low (code set) bs at = judged (member (be bs) set) (be bs ∷ []) 2 at (omega arith)
-judge-low etp bs at = judged (member (be bs) etpFlag) (asYes (be bs) ∷ []) 2 at (omega arith)
-judge-low subtype bs at = judged (member (be bs) subtypes) (be bs ∷ []) 2 at (omega arith)
+judge-low (text w) bs at = judged (wellFormed bs) (be bs ∷ []) 3 at (omega arith, omega arith)
+judge-low (code set) bs at = judged (member (be bs) set) (be bs ∷ []) 2 at (omega arith, omega arith)
+judge-low etp bs at = judged (member (be bs) etpFlag) (asYes (be bs) ∷ []) 2 at (omega arith, omega arith)
+judge-low subtype bs at = judged (member (be bs) subtypes) (be bs ∷ []) 2 at (omega arith, omega arith)
 judge-low skip bs at = value
 
 there : (b : Bool) (g : Got) → Field g → Field (cond b g short)
@@ -57,17 +57,17 @@ read-low (k ∷ ks) s at vs go f = step-low (field k s at) _ (field-low k s at) 
 
 under-low : (f : Found) (s : List ℕ) (at : ℕ) (vs : List ℕ) → Whole (under f s at vs)
 under-low (found r) s at vs = read-low (r .body) s at vs accepted (λ ws n. read-all)
-under-low none s at vs = low {n = 1} {p = 2} (omega arith)
+under-low none s at vs = low {n = 1} {p = 2} (omega arith, omega arith)
 
 window-low : (s : List ℕ) → Whole (window s)
 unfolding window
 window-low s = read-low header s 0 [] (message s) (λ h at. under-low (find rows (getD h 1 0)) s at (drop 1 h ++ (getD h 1 0 ∷ [])))
 
-from-low : (a : Answer) (n p : ℕ) → Whole a → windowFrom a ≡ Refused n p → n ≤ 3
+from-low : (a : Answer) (n p : ℕ) → Whole a → windowFrom a ≡ Refused n p → (1 ≤ n) × (n ≤ 3)
 from-low (accepted vs k) n p w e = let z : _≡_ {A = ℕ} 0 1 = cc in absurd (omega arith)
 from-low incomplete n p w e = let z : _≡_ {A = ℕ} 0 1 = cc in absurd (omega arith)
-from-low (refuses m o) n p (low h) e = let q : m ≡ n = cc in omega arith
+from-low (refuses m o) n p (low h) e = let q : m ≡ n = cc in (omega arith, omega arith)
 
-pub number-low : (s : List ℕ) (n p : ℕ) → windowOf s ≡ Refused n p → n ≤ 3
+pub number-low : (s : List ℕ) (n p : ℕ) → windowOf s ≡ Refused n p → (1 ≤ n) × (n ≤ 3)
 unfolding windowOf
 number-low s n p e = from-low (window s) n p (window-low s) e

@@ -91,7 +91,7 @@ fed-known s n _ (30-told _) e q = let z : _≡_ {A = ℕ} 0 1 = cc in absurd (om
 fed-known s n _ (32-told _) e q = let z : _≡_ {A = ℕ} 0 1 = cc in absurd (omega arith)
 fed-known s n _ (33-told _) e q = let z : _≡_ {A = ℕ} 0 1 = cc in absurd (omega arith)
 fed-known s n _ (nothing h y d) e q = let z : _≡_ {A = ℕ} 0 1 = cc in absurd (omega arith)
-fed-known s n _ (marked-told h y) e q = absurd (no-ready (marks s 10 0 .answer) (marks-stops s 10 0) e)
+fed-known s n _ (marked-told h y _) e q = absurd (no-ready (marks s 10 0 .answer) (marks-stops s 10 0) e)
 fed-known s n _ {i} {j} {k} (came h a c d) e q = record {
   sound = record { ordered = omega (arith, h .ordered); inside = omega (arith, h .inside) };
   bytes = ap (λ (m : ℕ). m + n) (q .bytes);
@@ -108,7 +108,7 @@ unfed-kept s n _ (32-told _) f = kept s
 unfed-kept s n _ (33-told _) f = kept s
 unfed-kept s n _ (came h a b d) f = absurd (f refl)
 unfed-kept s n _ (nothing h z e) f = kept s
-unfed-kept s n _ (marked-told h z) f = marks-kept s 10 0
+unfed-kept s n _ (marked-told h z _) f = marks-kept s 10 0
 
 pub told-kept : (s : Stream) (n : ℕ) → (toldOf s n .answer ≡ Ready → ⊥) → Kept s (toldOf s n .state)
 told-kept s n f = unfed-kept s n (toldOf s n) (told-is s n) f

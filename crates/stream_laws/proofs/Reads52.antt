@@ -22,7 +22,7 @@ use Rattle.stream_laws.proofs.Calls.{Kept, marks-stops, no-ready, no-wa
 use Rattle.stream_laws.proofs.Reach.{told-kept}
 
 -- a window that wants bytes has at most 51
-short : (s : Stream) (b : List ℕ) (x : Step) → Next s b x → x .answer ≡ Wants → s .end - s .start ≤ 51
+pub short : (s : Stream) (b : List ℕ) (x : Step) → Next s b x → x .answer ≡ Wants → s .end - s .start ≤ 51
 short s b _ (31-next _) e = let z : _≡_ {A = ℕ} 0 1 = cc in absurd (omega arith)
 short s b _ (30-next _) e = let z : _≡_ {A = ℕ} 0 1 = cc in absurd (omega arith)
 short s b _ (33-next _) e = let z : _≡_ {A = ℕ} 0 1 = cc in absurd (omega arith)
@@ -66,7 +66,7 @@ read-long s n _ (30-told _) e q g = let z : _≡_ {A = ℕ} 0 1 = cc in absurd (
 read-long s n _ (32-told _) e q g = let z : _≡_ {A = ℕ} 0 1 = cc in absurd (omega arith)
 read-long s n _ (33-told _) e q g = let z : _≡_ {A = ℕ} 0 1 = cc in absurd (omega arith)
 read-long s n _ (nothing h y d) e q g = let z : _≡_ {A = ℕ} 0 1 = cc in absurd (omega arith)
-read-long s n _ (marked-told h y) e q g = absurd (no-ready (marks s 10 0 .answer) (marks-stops s 10 0) e)
+read-long s n _ (marked-told h y _) e q g = absurd (no-ready (marks s 10 0 .answer) (marks-stops s 10 0) e)
 read-long s n _ (came h a c d) e q g = record {
   sound = record { ordered = omega (arith, h .ordered); inside = omega (arith, h .inside) };
   reads = omega (arith, h .ordered, q .reads);

@@ -86,7 +86,7 @@ pub data Told (s : Stream) (n : ℕ) : Step → Type 0 where
   33-told : 18446744073709551615 - s .«bytes_read» < n → Told s n (refuses s 33)
   came : Sound s → 0 < n → n ≤ 8192 - s .end → n ≤ 18446744073709551615 - s .«bytes_read» → Told s n (fed s n)
   nothing : Sound s → n ≡ 0 → s .start ≡ s .end → Told s n (record { state = s; answer = Nothing })
-  marked-told : Sound s → n ≡ 0 → Told s n (marks s 10 0)
+  marked-told : Sound s → n ≡ 0 → (s .start ≡ s .end → ⊥) → Told s n (marks s 10 0)
 
 pub told-is : (s : Stream) (n : ℕ) → Told s n (toldOf s n)
 unfolding toldOf
@@ -97,7 +97,7 @@ told-is s n =
     (λ a. test P (leb n (18446744073709551615 - s .«bytes_read»))
     (λ b. test P (ltb 0 n) (λ d. came h (ltb-true _ _ d) (leb-true _ _ a) (leb-true _ _ b))
     (λ d. let z : n ≡ 0 = omega (arith, ltb-false 0 n d) in
-    test P (eqb (s .start) (s .end)) (λ e. nothing h z (eqb-true _ _ e)) (λ _. marked-told h z)))
+    test P (eqb (s .start) (s .end)) (λ e. nothing h z (eqb-true _ _ e)) (λ e. marked-told h z (eqb-false _ _ e))))
     (λ b. 33-told (leb-false _ _ b)))
     (λ a. 32-told (leb-false _ _ a)))
 

@@ -1,0 +1,167 @@
+-- What holds at every point of a run: the messages answered and what the window and the rest of the input hold are what the input holds; the mark is
+-- clear; and each count is at most the bytes read.
+-- Assumes nothing.
+use Prim.Native.Nat.{ℕ, _+_, _-_, _≤_, _<_}
+use mathlib.Core.Path.{_≡_, refl, sym, ap, _∙_}
+use mathlib.Core.Bool.{false}
+use mathlib.Core.List.{List, [], _∷_, _++_, append-assoc}
+use native.Mathlib.Omega.{arith}
+use lib.ListN.{length, take, drop, length-drop, take-append-drop}
+use lib.Seq.{drop-append-le}
+use Rattle.records.specs.declared.Message.{Message as Record}
+use Rattle.reader.specs.declared.Window.the-variants.{Message as Accepted, Incomplete}
+use Rattle.reader.specs.Window.{windowOf}
+use Rattle.laws.proofs.Answers.{keeps}
+use Rattle.stream.specs.declared.Stream.{Stream}
+use Rattle.stream.specs.declared.Step.{Step}
+use Rattle.stream.specs.declared.Answer.the-variants.{Message, Wants, Ready}
+use Rattle.stream.specs.State.{freshState, marks}
+use Rattle.stream.specs.Next.{windowAt, nextOf}
+use Rattle.stream.specs.Room.{roomOf, roomBuffer}
+use Rattle.stream.proofs.Windows.{within}
+use Rattle.stream_laws.specs.Runs.{Sound}
+use Rattle.stream_laws.proofs.Steps.{Next, 31-next, 30-next, 33-next, message, wants, marked-next, next-is, Told, 30-told, 32-told, 33-told, came, nothing, marked-told, told-is}
+use Rattle.stream_laws.proofs.Calls.{marks-stops, no-message, no-wants, no-ready, room-ready}
+use Rattle.heard.specs.Heard.{Heard, before, heardOf}
+use Rattle.heard.specs.Runs.{Cutting, Read, roomed, toldAt, Run, fresh, message as a-message, read}
+use Rattle.heard.proofs.Inputs.{some, heard-message}
+use Rattle.heard.proofs.Windows.{window-taken, window-put, room-same}
+
+-- more: the read calls that brought nothing yet
+pub record Holds (input : List ℕ) (more : ℕ) (s : Stream) (b r : List ℕ) (ms : List Record) : Type 0 where
+  pub sound : Sound s
+  pub whole : length b ≡ 8192
+  pub clear : s .error ≡ false
+  pub heard : heardOf input ≡ before ms (heardOf (windowAt s b ++ r))
+  pub bytes : s .«bytes_read» + length r ≡ length input
+  pub calls : s .«read_calls» ≤ s .«bytes_read» + more
+  pub counted : s .messages + (s .end - s .start) ≤ s .«bytes_read»
+
+holds-fresh : (input b : List ℕ) → length b ≡ 8192 → Holds input 0 freshState b input []
+holds-fresh input b l = record {
+  sound = record { ordered = omega arith; inside = omega arith };
+  whole = l;
+  clear = refl;
+  heard = refl;
+  bytes = omega arith;
+  calls = omega arith;
+  counted = omega arith;
+}
+
+-- ---- next answers a message
+
+-- the messages so far, one more, and what is heard behind it
+one-more : (ms : List Record) (m : Record) (h : Heard) → before ms (before (m ∷ []) h) ≡ before (ms ++ (m ∷ [])) h
+one-more ms m h = ap (λ (x : List Record). record { messages = x; stop = h .stop }) (sym (append-assoc ms (m ∷ []) (h .messages)))
+
+-- what is heard of a window that begins with a message, and of the bytes behind it
+heard-on : (w r : List ℕ) (m : Record) (n : ℕ) → windowOf w ≡ Accepted m n → heardOf (w ++ r) ≡ before (m ∷ []) (heardOf (drop n w ++ r))
+heard-on w r m n e =
+    heard-message (w ++ r) m n (keeps w r (λ (f : windowOf w ≡ Incomplete). let z : _≡_ {A = ℕ} 0 1 = cc in omega arith) ∙ e)
+    ∙ ap (λ (x : List ℕ). before (m ∷ []) (heardOf x)) (drop-append-le n w r (some w m n e .1))
+
+taken-holds : (input : List ℕ) (s : Stream) (b r : List ℕ) (ms : List Record) (x : Step) (m : Record) → Next s b x → x .answer ≡ Message m
+    → Holds input 0 s b r ms → Holds input 0 (x .state) b r (ms ++ (m ∷ []))
+taken-holds input s b r ms _ m (31-next _) e q = let z : _≡_ {A = ℕ} 0 1 = cc in absurd (omega arith)
+taken-holds input s b r ms _ m (30-next _) e q = let z : _≡_ {A = ℕ} 0 1 = cc in absurd (omega arith)
+taken-holds input s b r ms _ m (33-next _) e q = let z : _≡_ {A = ℕ} 0 1 = cc in absurd (omega arith)
+taken-holds input s b r ms _ m (wants h l w) e q = let z : _≡_ {A = ℕ} 0 1 = cc in absurd (omega arith)
+taken-holds input s b r ms _ m (marked-next h l n p w) e q = absurd (no-message (marks s n p .answer) m (marks-stops s n p) e)
+taken-holds input s b r ms _ m (message h l m′ n w f) e q =
+    let same : m′ ≡ m = cc in
+    let u : n ≤ s .end - s .start = within s b m′ n w in
+    let o : 0 < n = some (windowAt s b) m′ n w .0 in
+    let c = q .counted in
+    record {
+      sound = record { ordered = omega (arith, h .ordered); inside = h .inside };
+      whole = l;
+      clear = refl;
+      heard =
+          q .heard
+          ∙ ap (before ms) (heard-on (windowAt s b) r m′ n w)
+          ∙ ap (λ (x : List ℕ). before ms (before (m′ ∷ []) (heardOf (x ++ r))))
+          (sym (window-taken b (s .start) (s .end) n u (omega (arith, h .inside))))
+          ∙ one-more ms m′ _
+          ∙ ap (λ (x : Record). before (ms ++ (x ∷ [])) (heardOf (take (s .end - (s .start + n)) (drop (s .start + n) b) ++ r))) same;
+      bytes = q .bytes;
+      calls = q .calls;
+      counted = omega arith;
+    }
+
+-- ---- next wants bytes: the state stays
+
+pub record Waits (s : Stream) (b : List ℕ) (t : Stream) : Type 0 where
+  pub kept : t ≡ s
+  pub short : windowOf (windowAt s b) ≡ Incomplete
+
+wants-step : (s : Stream) (b : List ℕ) (x : Step) → Next s b x → x .answer ≡ Wants → Waits s b (x .state)
+wants-step s b _ (31-next _) e = let z : _≡_ {A = ℕ} 0 1 = cc in absurd (omega arith)
+wants-step s b _ (30-next _) e = let z : _≡_ {A = ℕ} 0 1 = cc in absurd (omega arith)
+wants-step s b _ (33-next _) e = let z : _≡_ {A = ℕ} 0 1 = cc in absurd (omega arith)
+wants-step s b _ (message h l m n w f) e = let z : _≡_ {A = ℕ} 0 1 = cc in absurd (omega arith)
+wants-step s b _ (marked-next h l n p w) e = absurd (no-wants (marks s n p .answer) (marks-stops s n p) e)
+wants-step s b _ (wants h l w) e = record { kept = refl; short = w }
+
+pub wants-waits : (s : Stream) (b : List ℕ) → nextOf s b .answer ≡ Wants → Waits s b (nextOf s b .state)
+wants-waits s b e = wants-step s b (nextOf s b) (next-is s b) e
+
+-- ---- room is made
+
+room-holds : (input : List ℕ) (s : Stream) (b r : List ℕ) (ms : List Record) → roomOf s (length b) .answer ≡ Ready
+    → Holds input 0 s b r ms → Holds input 1 (roomOf s (length b) .state) (roomBuffer s b) r ms
+room-holds input s b r ms e q =
+    let y = room-ready s (length b) e in
+    let z = room-same s b e in
+    record {
+      sound = record { ordered = y .ordered; inside = omega (arith, y .free) };
+      whole = z .long;
+      clear = z .error ∙ q .clear;
+      heard = q .heard ∙ ap (λ (x : List ℕ). before ms (heardOf (x ++ r))) (sym (z .window));
+      bytes = omega (arith, y .bytes, q .bytes);
+      calls = omega (arith, y .bytes, y .calls, q .calls);
+      counted = omega (arith, y .bytes, y .messages, y .window, q .counted);
+    }
+
+-- ---- bytes came
+
+fed-holds : (input : List ℕ) (s : Stream) (b r : List ℕ) (ms : List Record) {may : Cutting} (q : Read may (s .end) b r) (x : Step)
+    → Told s (q .brings .count) x → x .answer ≡ Ready
+    → Holds input 1 s b r ms → Holds input 0 (x .state) (q .buffer) (drop (q .brings .count) r) ms
+fed-holds input s b r ms q _ (30-told _) e p = let z : _≡_ {A = ℕ} 0 1 = cc in absurd (omega arith)
+fed-holds input s b r ms q _ (32-told _) e p = let z : _≡_ {A = ℕ} 0 1 = cc in absurd (omega arith)
+fed-holds input s b r ms q _ (33-told _) e p = let z : _≡_ {A = ℕ} 0 1 = cc in absurd (omega arith)
+fed-holds input s b r ms q _ (nothing h y d) e p = let z : _≡_ {A = ℕ} 0 1 = cc in absurd (omega arith)
+fed-holds input s b r ms q _ (marked-told h y _) e p = absurd (no-ready (marks s 10 0 .answer) (marks-stops s 10 0) e)
+fed-holds input s b r ms q _ (came h a c d) e p =
+    let n = q .brings .count in
+    let w = windowAt s b in
+    let i = s .start in
+    record {
+      sound = record { ordered = omega (arith, h .ordered); inside = omega (arith, h .inside) };
+      whole = q .long ∙ p .whole;
+      clear = p .clear;
+      heard =
+          p .heard
+          ∙ ap (λ (x : List ℕ). before ms (heardOf (w ++ x))) (sym (take-append-drop n r))
+          ∙ ap (λ (x : List ℕ). before ms (heardOf x)) (sym (append-assoc w (take n r) (drop n r)))
+          ∙ ap (λ (x : List ℕ). before ms (heardOf (x ++ drop n r)))
+          (sym (window-put b (q .buffer) (take n r) i (s .end) n (h .ordered) (omega (arith, h .inside, p .whole)) (q .long) (q .put)));
+      bytes = omega (arith, p .bytes, q .brings .left, length-drop n r);
+      calls = omega (arith, p .calls);
+      counted = omega (arith, p .counted, h .ordered);
+    }
+
+-- ---- so at every point
+
+-- where next wants bytes and room was made
+pub roomed-holds : (input : List ℕ) (s : Stream) (b r : List ℕ) (ms : List Record) → nextOf s b .answer ≡ Wants → roomed s b .answer ≡ Ready
+    → Holds input 0 s b r ms → Holds input 1 (roomed s b .state) (roomBuffer (nextOf s b .state) b) r ms
+roomed-holds input s b r ms w e q =
+    room-holds input (nextOf s b .state) b r ms e (rw (wants-waits s b w .kept) q)
+
+pub holds : {may : Cutting} {input : List ℕ} {s : Stream} {b r : List ℕ} {ms : List Record} → Run may input s b r ms → Holds input 0 s b r ms
+holds {input = input} (fresh {b = b} l) = holds-fresh input b l
+holds {input = input} (a-message {s = s} {b = b} {r = r} {ms = ms} p m e) = taken-holds input s b r ms (nextOf s b) m (next-is s b) e (holds p)
+holds {may} {input = input} (read {s = s} {b = b} {r = r} {ms = ms} p w e q t) =
+    fed-holds input (roomed s b .state) (roomBuffer (nextOf s b .state) b) r ms q (toldAt may s b r q)
+    (told-is (roomed s b .state) (q .brings .count)) t (roomed-holds input s b r ms w e (holds p))
