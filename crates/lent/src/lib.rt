@@ -1,19 +1,56 @@
-// The stream's calls over a lent state: each takes the record, calls the covered function, and puts back what that made of it.
+// The stream's calls over a lent state. Each takes the record apart: it hands the parts that the call looks at, start, end and counts, to a covered
+// function, and stores back the parts that the call may change. The others are not touched, whatever they are.
 ghost use mathlib.Core.Path.{_≡_};
+ghost use mathlib.Core.Bool.{false};
 ghost use lib.ListN.{length};
 ghost use Rattle.stream.specs.Next.{nextOf};
 ghost use Rattle.stream.specs.Room.{roomOf, roomBuffer};
 ghost use Rattle.stream.specs.Told.{toldOf, failedOf};
 ghost use Rattle.play.specs.Play.{playOf};
+ghost use Rattle.lent.specs.Parts.{stateOf};
+use play::Played;
 use stream::Answer;
+use stream::Step;
 use stream::Stream;
+
+// Next, on the parts that it looks at. Here and below, what a call does not look at is zero, or false, in the state that the by-value call is handed.
+fn next_on(start: usize, end: usize, messages: u64, error: bool, buf: &[u8]) -> Step
+    ensures { λ r. ⌜ r ≡ nextOf (stateOf start end 0 0 messages error) (now (buf .entry)) ⌝ }
+{
+    let parts = Stream {
+        start,
+        end,
+        bytes_read: 0,
+        read_calls: 0,
+        messages,
+        error,
+    };
+    stream::next_of(parts, buf)
+}
 
 pub fn next(s: &mut Stream, buf: &[u8]) -> Answer
     ensures { λ r. ⌜ (r ≡ nextOf (now (s .entry)) (now (buf .entry)) .answer) × (now (s .exit) ≡ nextOf (now (s .entry)) (now (buf .entry)) .state) ⌝ }
 {
-    let step = stream::next_of(*s, buf);
-    *s = step.state;
+    let step = next_on(s.start, s.end, s.messages, s.error, buf);
+    s.start = step.state.start;
+    s.messages = step.state.messages;
+    s.error = step.state.error;
     step.answer
+}
+
+fn room_on(start: usize, end: usize, calls: u64, buf: &mut [u8]) -> Step
+    ensures { λ r. ⌜ (r ≡ roomOf (stateOf start end 0 calls 0 false) (length (now (buf .entry))))
+        × (now (buf .exit) ≡ roomBuffer (stateOf start end 0 calls 0 false) (now (buf .entry))) ⌝ }
+{
+    let parts = Stream {
+        start,
+        end,
+        bytes_read: 0,
+        read_calls: calls,
+        messages: 0,
+        error: false,
+    };
+    stream::make_room_of(parts, buf)
 }
 
 pub fn make_room(s: &mut Stream, buf: &mut [u8]) -> Answer
@@ -21,30 +58,89 @@ pub fn make_room(s: &mut Stream, buf: &mut [u8]) -> Answer
         × (now (s .exit) ≡ roomOf (now (s .entry)) (length (now (buf .entry))) .state)
         × (now (buf .exit) ≡ roomBuffer (now (s .entry)) (now (buf .entry))) ⌝ }
 {
-    let step = stream::make_room_of(*s, buf);
-    *s = step.state;
+    let step = room_on(s.start, s.end, s.read_calls, buf);
+    s.start = step.state.start;
+    s.end = step.state.end;
+    s.read_calls = step.state.read_calls;
     step.answer
+}
+
+fn told_on(start: usize, end: usize, bytes: u64, error: bool, n: usize) -> Step
+    ensures { λ r. ⌜ r ≡ toldOf (stateOf start end bytes 0 0 error) n ⌝ }
+{
+    let parts = Stream {
+        start,
+        end,
+        bytes_read: bytes,
+        read_calls: 0,
+        messages: 0,
+        error,
+    };
+    stream::told_of(parts, n)
 }
 
 pub fn told(s: &mut Stream, n: usize) -> Answer
     ensures { λ r. ⌜ (r ≡ toldOf (now (s .entry)) n .answer) × (now (s .exit) ≡ toldOf (now (s .entry)) n .state) ⌝ }
 {
-    let step = stream::told_of(*s, n);
-    *s = step.state;
+    let step = told_on(s.start, s.end, s.bytes_read, s.error, n);
+    s.end = step.state.end;
+    s.bytes_read = step.state.bytes_read;
+    s.error = step.state.error;
     step.answer
+}
+
+fn failed_on(start: usize, end: usize, error: bool) -> Step
+    ensures { λ r. ⌜ r ≡ failedOf (stateOf start end 0 0 0 error) ⌝ }
+{
+    let parts = Stream {
+        start,
+        end,
+        bytes_read: 0,
+        read_calls: 0,
+        messages: 0,
+        error,
+    };
+    stream::told_failed_of(parts)
 }
 
 pub fn told_failed(s: &mut Stream) -> Answer
     ensures { λ r. ⌜ (r ≡ failedOf (now (s .entry)) .answer) × (now (s .exit) ≡ failedOf (now (s .entry)) .state) ⌝ }
 {
-    let step = stream::told_failed_of(*s);
-    *s = step.state;
+    let step = failed_on(s.start, s.end, s.error);
+    s.error = step.state.error;
     step.answer
 }
 
 pub struct Reach {
     pub at: usize,
     pub answer: Answer,
+}
+
+// The slice that plays the reader makes all of these calls: it looks at every part, and may change every one.
+fn played_on(
+    start: usize,
+    end: usize,
+    bytes: u64,
+    calls: u64,
+    messages: u64,
+    error: bool,
+    buf: &mut [u8],
+    src: &[u8],
+    at: usize,
+    width: usize,
+) -> Played
+    ensures { λ r. ⌜ (r ≡ playOf (now (src .entry)) width (stateOf start end bytes calls messages error) (now (buf .entry)) at .played)
+        × (now (buf .exit) ≡ playOf (now (src .entry)) width (stateOf start end bytes calls messages error) (now (buf .entry)) at .buffer) ⌝ }
+{
+    let parts = Stream {
+        start,
+        end,
+        bytes_read: bytes,
+        read_calls: calls,
+        messages,
+        error,
+    };
+    play::play(parts, buf, src, at, width)
 }
 
 // A slice plays the reader: the position comes back with the answer.
@@ -54,8 +150,24 @@ pub fn play_on(s: &mut Stream, buf: &mut [u8], src: &[u8], at: usize, width: usi
         × (now (s .exit) ≡ playOf (now (src .entry)) width (now (s .entry)) (now (buf .entry)) at .played .state)
         × (now (buf .exit) ≡ playOf (now (src .entry)) width (now (s .entry)) (now (buf .entry)) at .buffer) ⌝ }
 {
-    let p = play::play(*s, buf, src, at, width);
-    *s = p.state;
+    let p = played_on(
+        s.start,
+        s.end,
+        s.bytes_read,
+        s.read_calls,
+        s.messages,
+        s.error,
+        buf,
+        src,
+        at,
+        width,
+    );
+    s.start = p.state.start;
+    s.end = p.state.end;
+    s.bytes_read = p.state.bytes_read;
+    s.read_calls = p.state.read_calls;
+    s.messages = p.state.messages;
+    s.error = p.state.error;
     Reach {
         at: p.at,
         answer: p.answer,

@@ -1,23 +1,22 @@
--- `lent::told_failed` meets its contract: a walk of its MIR, by hand. The borrow is opened, the record is copied out and passed to `told_failed_of`, and the state of what comes back is stored; the borrow is closed at that state.
--- All that the proof knows of `told_failed_of` is that it meets its contract.
+-- `lent::told_failed` meets its contract: a walk of its MIR, by hand. The borrow is opened, start, end and the mark are loaded and passed to `failed_on`, and the
+-- mark of what comes back is stored; the borrow is closed at the record with that mark, which is what the definition makes of the whole record (`failed-back`).
 -- Assumes nothing.
-use Rattle.lent.proofs.Prelude.{_≡_, refl, ap, ℕ, [], _∷_, List, URA, fullShare, named, Val, vptr, SProp, ent, sep, emp, via, fst∗, snd∗, exE, id⊢, GName, Lft, Share, ftrue, fat, flft, fobs, fbor, Memory, Routine, Heap, Calls, Loops, WpFn, Tables, Atoms, sem, Fun, fact, givenOf, tables, tablesOf, Given, ‵, raw, _⊛_, some, later, _$_, _∵_, !, qed, by, move, keep, drop, use1, split, join, pick, rewrite, fsplit, fsplit3, fjoin, fjoin3, feqI, suffices, frame, await, done, look, init, store, forget, stop, hop, fld, from, load, of-opd, and-then, no-more, assigns, land, returns, enter, alloc1, alloc0, params1, pass1, pass0, free1, free0, whole, sub, look-in, store-in, Body, FmC, fmOf, WpFn-mono, owns, Is, shows, mem, RefT, MutRef, ptr-vals, mut-tells, plain, only, owned, peeks, heard, nothing, Contract, Triple, calls-at, ensured, lasts, onEntry, Meets, tripleOf, entered, cited, says, Stays, stay-ref, walkOf, AllGo, goes-ref, Walks, ends-at, walked, walk-meets}
-use denote.Struct.Laws as LL
+use Rattle.lent.proofs.Prelude.{_≡_, refl, ℕ, Bool, [], _∷_, List, URA, named, w64, Val, vptr, vint, vbool, SProp, ent, emp, id⊢, GName, Lft, Share, ftrue, flft, fobs, fbor, Memory, Routine, Heap, Calls, Loops, WpFn, Atoms, Fun, givenOf, tables, Given, ‵, raw, _⊛_, _$_, _∵_, !, qed, by, move, keep, drop, use0, split, join, fsplit, fsplit3, fjoin, fjoin3, feqI, suffices, frame, done, ⋆, look, init, stop, fld, from, no-more, returns, enter, alloc1, alloc0, params1, pass1, pass0, free0, look-in, Body, FmC, owns, Is, shows, mem, RefT, MutRef, ptr-vals, mut-tells, plain, owned, peeks, nothing, Contract, Triple, calls-at, onEntry, tripleOf, cited, says, Stays, stay-ref, walkOf, goes-ref, ends-at}
 use denote.Enum.Laws as EL
 use Rattle.stream.specs.Told.{failedOf}
 use Rattle.stream.specs.declared.Stream.{Stream}
 use Rattle.stream.specs.declared.Step.{Step}
 use Rattle.stream.proofs.Stream as T
-use Rattle.stream.proofs.Stream.Laws as T′
 use Rattle.stream.proofs.Step as S
-use Rattle.stream.proofs.Step.Laws as S′
 use Rattle.stream.proofs.Answer as N
 use Rattle.stream.proofs.Answer.Laws as N′
-use Rattle.stream.proofs.told_failed_of as g
-use Rattle.stream.proofs.told_failed_of.Symbol as g-def
-use Rattle.stream.proofs.told_failed_of.Symbol.{name as #stream·told-failed-of}
-use Rattle.stream.proofs.told_failed_of.Met as g-thm
-use Rattle.lent.proofs.Held.{opens-stream, closes-stream, state-val, step-val, answer-val, state-is, answer-is, state-typed, step-typed, answer-typed, step-name, step-parts}
+use Rattle.lent.proofs.failed_on as g
+use Rattle.lent.proofs.failed_on.Symbol as g-def
+use Rattle.lent.proofs.failed_on.Symbol.{name as #lent·failed-on}
+use Rattle.lent.proofs.failed_on.Met as g-thm
+use Rattle.lent.proofs.Apart.{failed-parts, failed-into, failed-back}
+use Rattle.lent.proofs.Held.{answer-val, Fits, fits, made, num, answer-is, opens-stream, closes-stream, loads, stores, lands-step, answers, in-state, hands, gone, adds-num, adds-flag}
+use Rattle.lent.proofs.Walk.{by-walk, hears}
 use Rattle.lent.proofs.told_failed.Key.{name as #lent·told-failed}
 use Rattle.lent.proofs.told_failed as f
 use Rattle.lent.proofs.told_failed.Statement as stated
@@ -31,10 +30,7 @@ abbrev Callee : {M : Type 1} (𝓤 : URA M) (H : Heap 𝓤) (A : Atoms 𝓤) (me
 Callee 𝓤 H A mem run = tripleOf 𝓤 H A g.signature (g.spec 𝓤 H A mem run)
 
 module _ {M : Type 1} (𝓤 : URA M) (H : Heap 𝓤) (A : Atoms 𝓤) (W : Given 𝓤 H A) (at-mem : Memory → SProp 𝓤) (run : Routine → Fun 𝓤) (κ : Lft) (q : Share) (b o : ℕ) (γ : GName) (h : Stream) where
-  abbrev Arg : Type 0
-  Arg = RefT Stream × Unit {0}
-
-  abbrev x : Arg
+  abbrev x : RefT Stream × Unit {0}
   x = (record { ptr = (b, o); name = γ; now = h }, tt)
 
   abbrev at : List Val × Unit {0}
@@ -44,65 +40,57 @@ module _ {M : Type 1} (𝓤 : URA M) (H : Heap 𝓤) (A : Atoms 𝓤) (W : Given
   Post = walkOf 𝓤 H A f.ended stayed (f.clauses 𝓤 H A at-mem run) .post (((κ, tt), (q, tt), tt, x, at), tt)
 
   -- what the callee is passed
+  abbrev args : ℕ × (ℕ × (Bool × Unit {0}))
+  args = (h .start, (h .end, (h .error, tt)))
+
   abbrev to : Callee 𝓤 H A at-mem run .Ghost
-  to = ((tt, tt, tt, (h, tt), (state-val h ∷ [], tt)), tt)
+  to = ((tt, tt, tt, args, (vint w64 (h .start) ∷ [], (vint w64 (h .end) ∷ [], (vbool (h .error) ∷ [], tt)))), tt)
 
-  goes : ent 𝓤 (sem 𝓤 H A (T.the-row .own h (state-val h ∷ []))) (Callee 𝓤 H A at-mem run .pre to)
-  goes = qed W (‵ (T.the-row .own h (state-val h ∷ [])) ∷ []) ∵ nothing ! $ move ! (1 ∷ 0 ∷ []) $ join ! $ nothing ! $ join ! $ frame ! $ done !
+  abbrev found : Step
+  found = failedOf (failed-parts h)
 
-  -- of the callee's `ensured`, the clause alone
-  said : (r : Step) → ent 𝓤 (ensured 𝓤 H A g.ended (g.clauses 𝓤 H A at-mem run) tt (h, tt) tt r) (fact 𝓤 (r ≡ failedOf h))
-  said r = exE 𝓤 _ (λ ws. snd∗ 𝓤 (sem 𝓤 H A (lasts g.ended tt (h, tt) ws)) (fact 𝓤 (r ≡ failedOf h)))
+  goes : Fits h → ent 𝓤 (emp 𝓤) (Callee 𝓤 H A at-mem run .pre to)
+  goes p = qed W [] ∵ nothing ! $ adds-flag ! (h .error) $ adds-num ! (h .end) (p .1 .0) $ adds-num ! (h .start) (p .0) $ nothing ! $ join ! $ frame ! $ done !
 
-  exits : (r : Step) → r ≡ failedOf h → Is N.the-row (r .answer) (answer-val (r .answer) ∷ [])
-      → ent 𝓤 (sep 𝓤 (A .obs γ (T.the-row .coded .code (r .state))) (sep 𝓤 (A .bor κ (Body (mem T.the-row) b o γ)) (A .lft κ q))) (Post (answer-val (r .answer)))
+  exits : (r : Step) → r ≡ found → Is N.the-row (r .answer) (answer-val (r .answer) ∷ [])
+      → ent 𝓤 (⋆ 𝓤 H A (‵ (fobs γ (T.the-row .coded .code (failed-into h r))) ∷ ‵ (fbor κ (Body (mem T.the-row) b o γ)) ∷ ‵ (flft κ q) ∷ [])) (Post (answer-val (r .answer)))
   exits r e is =
-      qed W (‵ (fobs γ (T.the-row .coded .code (r .state))) ∷ ‵ (fbor κ (Body (mem T.the-row) b o γ)) ∷ ‵ (flft κ q) ∷ []) ∵
-      suffices ! _ (ends-at 𝓤 H A f.ended stayed (f.clauses 𝓤 H A at-mem run) W (((κ, tt), (q, tt), tt, x, at), tt) (answer-val (r .answer)) (r .answer) (r .state, tt) (tt, tt)) $
-      says ! (ap (λ (y : Step). y .answer) e, ap (λ (y : Step). y .state) e) $
+      qed W (‵ (fobs γ (T.the-row .coded .code (failed-into h r))) ∷ ‵ (fbor κ (Body (mem T.the-row) b o γ)) ∷ ‵ (flft κ q) ∷ []) ∵
+      suffices ! _ (ends-at 𝓤 H A f.ended stayed (f.clauses 𝓤 H A at-mem run) W (((κ, tt), (q, tt), tt, x, at), tt) (answer-val (r .answer)) (r .answer) (failed-into h r, tt) (tt, tt)) $
+      says ! (failed-back h r e) $
       nothing ! $ move ! (3 ∷ 0 ∷ []) $ join ! $ frame ! $ feqI ! (List Val) (vptr b o ∷ []) (vptr b o ∷ []) refl $ fjoin3 ! $ nothing ! $ move ! (1 ∷ 0 ∷ []) $ fjoin ! $ frame ! $
       owned ! N.the-row (Is N.the-row) (EL.makes N.the-type N′.the-plain 𝓤 H A) (r .answer) _ is $ done !
 
-  module _ (C : Calls 𝓤 H) (Λ : Loops 𝓤 H) (fm : FmC 𝓤 H (W .laws) C) (known : Triple 𝓤 (C #stream·told-failed-of) (Callee 𝓤 H A at-mem run)) where
+  module _ (C : Calls 𝓤 H) (Λ : Loops 𝓤 H) (fm : FmC 𝓤 H (W .laws) C) (known : Triple 𝓤 (C #lent·failed-on) (Callee 𝓤 H A at-mem run)) where
     walk : ent 𝓤 (onEntry 𝓤 H A f.signature (κ, tt) (q, tt) x at) (WpFn 𝓤 H C Λ code.function (vptr b o ∷ []) Post)
     walk =
         qed W ((‵ (flft κ q) ⊛ ‵ ftrue) ∷ ‵ (owns (MutRef (named 0) κ T.the-row ∷ []) x at) ∷ []) ∵ split ! $ move ! (2 ∷ []) $ fsplit ! $ fsplit3 ! $ drop ! $ move ! (0 ∷ 1 ∷ 3 ∷ []) $
         -- [obs; the borrow; the token; true; true]
         enter ! C Λ code.function (vptr b o ∷ []) _ $
-        alloc1 ! (λ l₀. alloc1 ! (λ l₁. alloc1 ! (λ l₂. alloc1 ! (λ l₃. alloc0 ! $ params1 ! $ pass1 ! (init ! 4 refl (tt, tt)) $ pass0 ! $
-        move ! (8 ∷ 9 ∷ 10 ∷ []) $ opens-stream ! tt h b o (λ was.
-        -- [the record's cell; what a Stream owns; the open borrow; obs; auth; _3; …; _2; …; _1; …; room for _0; …]
-        assigns ! (of-opd ! (load ! (from ! (hop ! (look ! 9 refl) (stop !))) (look ! 0 refl))) (from ! (stop !)) (init ! 5 {τ = T′.mir} {b = l₃} {o = 0} {v = state-val h} refl (state-typed 𝓤 H A W h was)) $
-        move ! (1 ∷ []) $ use1 W (raw (Callee 𝓤 H A at-mem run .pre to)) goes $
-        calls-at ! fm (Callee 𝓤 H A at-mem run) known to (and-then ! (load ! (from ! (stop !)) (look ! 5 refl)) (no-more !)) (λ v.
-        use1 W (later (some (λ (r : Step). (‵ ftrue ⊛ ‵ (S.the-row .own r (v ∷ []))) ⊛ raw (ensured 𝓤 H A g.ended (g.clauses 𝓤 H A at-mem run) tt (h, tt) tt r)))) (id⊢ 𝓤 _) $ await ! tt $ pick ! (λ r.
-        split ! $ move ! (1 ∷ []) $ use1 W (raw (fact 𝓤 (r ≡ failedOf h))) (said r) $ heard ! (r ≡ failedOf h) (λ e. split ! $ drop ! $
+        alloc1 ! (λ l₀. alloc1 ! (λ l₁. alloc1 ! (λ l₂. alloc1 ! (λ l₃. alloc1 ! (λ l₄. alloc1 ! (λ l₅. alloc0 ! $ params1 ! $ pass1 ! (init ! 8 refl (tt, tt)) $ pass0 ! $
+        move ! (12 ∷ 13 ∷ 14 ∷ []) $ opens-stream ! tt h b o (λ was.
+        -- [the record's cell; what a Stream owns; the open borrow; obs; auth; room for _5; …; _4; …; _3; …; _2; …; _1; …; room for _0; …]
+        loads ! 13 9 0 refl refl refl (num (fits h was .0)) $ loads ! 13 7 1 refl refl refl (num (fits h was .1 .0)) $ loads ! 13 5 5 refl refl refl (tt, tt) $
+        move ! (1 ∷ []) $ drop ! $ use0 W (raw (Callee 𝓤 H A at-mem run .pre to)) (goes (fits h was)) $
+        calls-at ! fm (Callee 𝓤 H A at-mem run) known to (hands ! 9 refl (hands ! 7 refl (hands ! 5 refl (no-more !)))) (λ v.
+        hears ! tt g.ended (g.clauses 𝓤 H A at-mem run) to (λ r _. r ≡ found) (λ r _. id⊢ 𝓤 _) (λ r _ e. move ! (1 ∷ 2 ∷ []) $ drop ! $ drop ! $
         peeks ! S.the-row (Is S.the-row) (shows 𝓤 H A S.the-row) r (v ∷ []) (λ is.
-        -- [what a Step owns; the record's cell; the open borrow; obs; auth; _3; …; _2; …; _1; …; room for _0; …]
-        land ! (from ! (stop !)) (init ! 7 {τ = S′.mir} {b = l₂} {o = 0} {v = v} refl (step-typed 𝓤 H A W r is)) $
-        rewrite ! 7 (λ (u : Val). ‵ (fat fullShare S′.mir l₂ 0 u)) (ap only (LL.tells S.the-type S′.the-laws r (v ∷ []) is)) refl $
-        assigns ! (of-opd ! (load ! (from ! (fld ! {τ = T′.mir} {d = 0} refl (stop !))) (look-in ! 7 {τ = T′.mir} (sub ! {ν = step-name} {τs = step-parts} 0 {τ = T′.mir} {d = 0} refl (whole ! {τ = S′.mir}))))) (from ! (hop ! (look ! 9 refl) (stop !))) (store ! 1 {τ = T′.mir} {b = b} {o = o} {v₀ = state-val h} {v = state-val (r .state)} refl (state-typed 𝓤 H A W (r .state) (state-is r is))) $
-        assigns ! (of-opd ! (load ! (from ! (fld ! {τ = N′.mir} {d = 48} refl (stop !))) (look-in ! 7 {τ = N′.mir} (sub ! {ν = step-name} {τs = step-parts} 1 {τ = N′.mir} {d = 48} refl (whole ! {τ = S′.mir}))))) (from ! (stop !)) (init ! 11 {τ = N′.mir} {b = l₀} {o = 0} {v = answer-val (r .answer)} refl (answer-typed 𝓤 H A W (r .answer) (answer-is r is))) $
-        drop ! $ closes-stream ! tt (r .state) (state-is r is) b o $
-        returns ! (look ! 9 {q = fullShare} {τ = N′.mir} {b = l₀} {o = 0} {v = answer-val (r .answer)} refl) $ forget ! 3 refl $ forget ! 5 {τ = S′.mir} {b = l₂} {o = 0} {v = step-val r} refl $ forget ! 7 refl $ forget ! 9 {τ = N′.mir} {b = l₀} {o = 0} {v = answer-val (r .answer)} refl $ move ! (9 ∷ 10 ∷ []) $ free1 ! $ move ! (7 ∷ 8 ∷ []) $ free1 ! $ move ! (5 ∷ 6 ∷ []) $ free1 ! $ move ! (3 ∷ 4 ∷ []) $ free1 ! $ free0 ! $
-        keep ! (0 ∷ 1 ∷ 2 ∷ []) $ by ! (exits r e (answer-is r is)))))))))))
-
-module _ {M : Type 1} (𝓤 : URA M) (H : Heap 𝓤) (A : Atoms 𝓤) (W : Given 𝓤 H A) (at-mem : Memory → SProp 𝓤) (run : Routine → Fun 𝓤) where
-  f-walks : (C : Calls 𝓤 H) (Λ : Loops 𝓤 H) → FmC 𝓤 H (W .laws) C → Triple 𝓤 (C #stream·told-failed-of) (Callee 𝓤 H A at-mem run) → Walks 𝓤 H A f.ended stayed (WpFn 𝓤 H C Λ code.function) (f.clauses 𝓤 H A at-mem run)
-  f-walks C Λ fm known = walked 𝓤 H A f.ended stayed (f.clauses 𝓤 H A at-mem run) (WpFn 𝓤 H C Λ code.function) (λ κs. (ptr-vals, tt)) (λ κs. (mut-tells (named 0) (κs .0) T.the-row, tt))
-      (λ κs qs bounds a _ _. via 𝓤 _ (fst∗ 𝓤 _ (emp 𝓤)) (walk 𝓤 H A W at-mem run (κs .0) (qs .0) (a .0 .ptr .0) (a .0 .ptr .1) (a .0 .name) (a .0 .now) C Λ fm known))
-
-  all-go : AllGo 𝓤 H A W 1 (f.signature .params) (f.ended .kept) stayed
-  all-go = (goes-ref 𝓤 H A W 1 0 tt (plain (λ _. T.the-row)), tt)
-
-f-meets : {M : Type 1} (𝓤 : URA M) (H : Heap 𝓤) (A : Atoms 𝓤) (W : Given 𝓤 H A) (at-mem : Memory → SProp 𝓤) (run : Routine → Fun 𝓤) (𝓣 : Tables 𝓤 H)
-    → Triple 𝓤 (𝓣 .C #stream·told-failed-of) (Callee 𝓤 H A at-mem run) → Meets 𝓤 H A f.signature (WpFn 𝓤 H (𝓣 .C) (𝓣 .Λ) code.function) (f.spec 𝓤 H A at-mem run)
-f-meets 𝓤 H A W at-mem run 𝓣 known = walk-meets 𝓤 H A f.ended stayed W (all-go 𝓤 H A W at-mem run) (f.clauses 𝓤 H A at-mem run) (WpFn 𝓤 H (𝓣 .C) (𝓣 .Λ) code.function) (WpFn-mono 𝓤 H (W .laws) 𝓣 code.function) (f-walks 𝓤 H A W at-mem run (𝓣 .C) (𝓣 .Λ) (fmOf 𝓤 H (W .laws) 𝓣) known)
+        -- [what a Step owns; the record's cell; the open borrow; obs; auth; _5; …; _4; …; _3; …; room for _2; …; _1; …; room for _0; …]
+        lands-step ! 11 r is (from ! (stop !)) refl $ move ! (1 ∷ []) $
+        stores ! 13 5 refl refl refl (look-in ! 11 (in-state ! 5 refl)) (tt, tt) $
+        answers ! 11 15 r is refl refl (from ! (fld ! {τ = N′.mir} {d = 48} refl (stop !))) (from ! (stop !)) $
+        move ! (1 ∷ []) $ drop ! $ closes-stream ! tt (failed-into h r) (made (failed-into h r) (fits h was)) b o $
+        -- [obs; the borrow; the token; _5; …; _4; …; _3; …; _2; …; _1; …; _0; …]
+        returns ! (look ! 13 {τ = N′.mir} refl) $ move ! (13 ∷ 14 ∷ 11 ∷ 12 ∷ 9 ∷ 10 ∷ 7 ∷ 8 ∷ 5 ∷ 6 ∷ 3 ∷ 4 ∷ []) $ gone ! $ gone ! $ gone ! $ gone ! $ gone ! $ gone ! $ free0 ! $
+        keep ! (0 ∷ 1 ∷ 2 ∷ []) $ by ! (exits r e (answer-is r is))))))))))))
 
 pub told-failed-spec : {M : Type 1} → stated.statement M
-unfolding code.routine tablesOf
+unfolding code.routine
 told-failed-spec 𝓤 H 𝓜 𝓖 𝓡 =
-    entered 𝓤 H (tripleOf 𝓤 H (𝓖 .A) f.signature (f.spec 𝓤 H (𝓖 .A) (𝓜 .mem) (𝓡 .run)))
-    (tables 𝓤 H 𝓜 𝓡 code.env .C) (tables 𝓤 H 𝓜 𝓡 code.env .Λ) #lent·told-failed code.function (code.unfolded 𝓤 H 𝓜 𝓡)
-    (f-meets 𝓤 H (𝓖 .A) (givenOf 𝓤 H 𝓜 𝓖) (𝓜 .mem) (𝓡 .run) (tablesOf 𝓤 H 𝓜 (tables 𝓤 H 𝓜 𝓡 code.env))
-    (cited 𝓤 H (Callee 𝓤 H (𝓖 .A) (𝓜 .mem) (𝓡 .run)) 𝓜 𝓡 code.env #stream·told-failed-of g-def.routine code.calls-stream·told-failed-of (g-thm.met 𝓤 H 𝓜 𝓖 𝓡)))
+    let W = givenOf 𝓤 H 𝓜 𝓖 in
+    let Γ = tables 𝓤 H 𝓜 𝓡 code.env in
+    by-walk 𝓤 H 𝓜 𝓖 𝓡 code.env f.ended stayed (f.clauses 𝓤 H (𝓖 .A) (𝓜 .mem) (𝓡 .run)) #lent·told-failed code.function (code.unfolded 𝓤 H 𝓜 𝓡)
+    (goes-ref 𝓤 H (𝓖 .A) W 1 0 tt (plain (λ _. T.the-row)), tt) (λ κs. (ptr-vals, tt)) (λ κs. (mut-tells (named 0) (κs .0) T.the-row, tt))
+    (λ fm κs qs bounds a _ _. walk 𝓤 H (𝓖 .A) W (𝓜 .mem) (𝓡 .run) (κs .0) (qs .0) (a .0 .ptr .0) (a .0 .ptr .1) (a .0 .name) (a .0 .now)
+    (Γ .C) (Γ .Λ) fm
+    (cited 𝓤 H (Callee 𝓤 H (𝓖 .A) (𝓜 .mem) (𝓡 .run)) 𝓜 𝓡 code.env #lent·failed-on g-def.routine code.calls-lent·failed-on (g-thm.met 𝓤 H 𝓜 𝓖 𝓡)))
