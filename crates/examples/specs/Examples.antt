@@ -1,0 +1,163 @@
+-- The scope's examples 1 to 11, one table: which bytes, which answer is asked of them, and what it is. An accepted message stands whole.
+-- Assumes nothing.
+use Prim.Native.Nat.{ℕ}
+use mathlib.Core.Path.{_≡_}
+use mathlib.Core.Bool.{true, false}
+use mathlib.Core.List.{List, [], _∷_, _++_}
+use mathlib.Core.Logic.{_⊎_}
+use Rattle.codes.specs.declared.CrossType.the-variants.{Intraday}
+use Rattle.codes.specs.declared.EventCode.the-variants.{StartOfMessages}
+use Rattle.codes.specs.declared.FinancialStatus.the-variants.{Normal}
+use Rattle.codes.specs.declared.Flag.the-variants.{Yes, No, Absent}
+use Rattle.codes.specs.declared.IssueClassification.the-variants.{OtherSecurities}
+use Rattle.codes.specs.declared.IssueSubType.the-variants.{ETFPortfolioDepositaryReceipt}
+use Rattle.codes.specs.declared.LuldRefPriceTier.the-variants.{Tier1}
+use Rattle.codes.specs.declared.MarketCategory.the-variants.{NasdaqGlobalMarket}
+use Rattle.records.specs.declared.CrossTrade.{CrossTrade}
+use Rattle.records.specs.declared.StockDirectory.{StockDirectory}
+use Rattle.records.specs.declared.Body.{Body}
+use Rattle.records.specs.declared.Body.the-variants as Body·
+use Rattle.records.specs.declared.Message.{Message}
+use Rattle.reader.specs.declared.Window.{Window}
+use Rattle.reader.specs.declared.Window.the-variants.{Message as Accepted, Incomplete, Refused}
+use Rattle.reader.specs.Window.{windowOf}
+use Rattle.walk.specs.declared.Verdict.{Verdict}
+use Rattle.walk.specs.declared.Verdict.the-variants.{Bad}
+use Rattle.walk.specs.Walk.{frameOf}
+use Rattle.walk.specs.Frames.{Entry, Walked, walkOf}
+
+-- ---- what a row says
+
+-- the number on the page, the bytes, and what the window's answer to them is; the frame rule's; the walk's
+pub data Row : Type 0 where
+  window : ℕ → List ℕ → Window → Row
+  frame : ℕ → List ℕ → Verdict → Row
+  walk : ℕ → List ℕ → Walked → Row
+
+-- by the definitions that the contracts cite
+abbrev pub Holds : Row → Type 0
+Holds (window e s a) = windowOf s ≡ a
+Holds (frame e s v) = frameOf windowOf s ≡ v
+Holds (walk e s w) = walkOf windowOf s ≡ w
+
+-- a row with its answer computed anew
+abbrev pub anew : Row → Row
+anew (window e s a) = window e s (windowOf s)
+anew (frame e s v) = frame e s (frameOf windowOf s)
+anew (walk e s w) = walk e s (walkOf windowOf s)
+
+-- r is one of the rows
+abbrev pub In : Row → List Row → Type 0
+In r [] = ⊥
+In r (x ∷ xs) = (r ≡ x) ⊎ In r xs
+
+-- ---- parts of the bytes, and the messages
+
+-- behind the tag, as in line two: locate 1, tracking number 2, timestamp 2; and a message with these
+abbrev head : List ℕ
+head = 0x00 ∷ 0x01 ∷ 0x00 ∷ 0x02 ∷ 0x00 ∷ 0x00 ∷ 0x00 ∷ 0x00 ∷ 0x00 ∷ 0x02 ∷ []
+
+abbrev with-head : ℕ → Body → Message
+with-head t b = record { tag = t; «stock_locate» = 1; «tracking_number» = 2; timestamp = 2; body = b }
+
+-- a number of eight bytes, 42; one of four, 100; a stock
+abbrev n8 : List ℕ
+n8 = 0x00 ∷ 0x00 ∷ 0x00 ∷ 0x00 ∷ 0x00 ∷ 0x00 ∷ 0x00 ∷ 0x2a ∷ []
+
+abbrev n4 : List ℕ
+n4 = 0x00 ∷ 0x00 ∷ 0x00 ∷ 0x64 ∷ []
+
+abbrev stock : List ℕ
+stock = 0x41 ∷ 0x41 ∷ 0x50 ∷ 0x4c ∷ 0x20 ∷ 0x20 ∷ 0x20 ∷ 0x20 ∷ []
+
+-- line one behind its length, and the message that it is
+abbrev line-one : List ℕ
+line-one = 0x53 ∷ 0x00 ∷ 0x00 ∷ 0x00 ∷ 0x00 ∷ 0x00 ∷ 0x00 ∷ 0x00 ∷ 0x00 ∷ 0x00 ∷ 0x01 ∷ 0x4f ∷ []
+
+abbrev opens : Message
+opens = record { tag = 0x53; «stock_locate» = 0; «tracking_number» = 0; timestamp = 1; body = Body·.SystemEvent StartOfMessages }
+
+-- a Q with the cross code I (49)
+abbrev q-with-i : List ℕ
+q-with-i = 0x00 ∷ 0x28 ∷ 0x51 ∷ head ++ n8 ++ stock ++ n4 ++ n8 ++ (0x49 ∷ [])
+
+abbrev intraday : CrossTrade
+intraday = record { shares = 42; stock = 0x4141504c20202020; «cross_price» = 100; «match_number» = 42; «cross_type» = Intraday }
+
+-- an I with the cross code I, at place 50
+abbrev i-with-i : List ℕ
+i-with-i = 0x00 ∷ 0x32 ∷ 0x49 ∷ head ++ n8 ++ n8 ++ (0x42 ∷ []) ++ stock ++ n4 ++ n4 ++ n4 ++ (0x49 ∷ 0x20 ∷ [])
+
+-- an R with M (4d) at place 35
+abbrev r-with-m : List ℕ
+r-with-m =
+    0x00 ∷ 0x27 ∷ 0x52 ∷ head ++ stock
+    -- category, status; round lot; lots only, class, subtype
+    ++ (0x47 ∷ 0x4e ∷ []) ++ n4 ++ (0x4e ∷ 0x51 ∷ 0x45 ∷ 0x20 ∷ [])
+    -- authenticity, short sale, IPO, LULD tier, ETP; leverage; inverse
+    ++ (0x50 ∷ 0x4e ∷ 0x20 ∷ 0x31 ∷ 0x4d ∷ []) ++ n4 ++ (0x4e ∷ [])
+
+abbrev etp-yes : StockDirectory
+etp-yes = record {
+  stock = 0x4141504c20202020;
+  «market_category» = NasdaqGlobalMarket;
+  «financial_status» = Normal;
+  «round_lot_size» = 100;
+  «round_lots_only» = false;
+  «issue_classification» = OtherSecurities;
+  «issue_subtype» = ETFPortfolioDepositaryReceipt;
+  authenticity = true;
+  «short_sale_threshold» = No;
+  «ipo_flag» = Absent;
+  «luld_ref_price_tier» = Tier1;
+  «etp_flag» = Yes;
+  «etp_leverage_factor» = 100;
+  «inverse_indicator» = false;
+}
+
+-- the first 33 bytes of an A with this side and the byte ff in its stock: ff is the stock's first byte, at place 26, and its eighth is not there
+abbrev a-with-ff : ℕ → List ℕ
+a-with-ff side = 0x00 ∷ 0x24 ∷ 0x41 ∷ head ++ n8 ++ (side ∷ []) ++ n4 ++ (0xff ∷ 0x41 ∷ 0x50 ∷ 0x4c ∷ 0x20 ∷ 0x20 ∷ 0x20 ∷ [])
+
+-- a frame of this size at this offset, refused
+abbrev refused : ℕ → ℕ → ℕ → ℕ → Entry
+refused at size number place = record { at = at; size = size; what = Bad number place }
+
+abbrev walked : List Entry → ℕ → ℕ → Walked
+walked es tail left = record { entries = es; tail = tail; left = left }
+
+-- ---- the table
+
+abbrev pub rows : List Row
+rows =
+    -- Empty window: incomplete.
+    window 1 [] Incomplete
+    -- Line one above: accepted, 14.
+    ∷ window 2 (0x00 ∷ 0x0c ∷ line-one) (Accepted opens 14)
+    -- Its first 13 bytes: incomplete.
+    ∷ window 3 (0x00 ∷ 0x0c ∷ 0x53 ∷ 0x00 ∷ 0x00 ∷ 0x00 ∷ 0x00 ∷ 0x00 ∷ 0x00 ∷ 0x00 ∷ 0x00 ∷ 0x00 ∷ 0x01 ∷ []) Incomplete
+    -- Line one with length ffff: accepted, 14; in the walk a tail of 14.
+    ∷ window 4 (0xff ∷ 0xff ∷ line-one) (Accepted opens 14)
+    ∷ walk 4 (0xff ∷ 0xff ∷ line-one) (walked [] 0 14)
+    -- 13 bytes with tag 5a: 1 at 2; 12 of them: incomplete.
+    ∷ window 5 (0x00 ∷ 0x0c ∷ 0x5a ∷ 0x00 ∷ 0x00 ∷ 0x00 ∷ 0x00 ∷ 0x00 ∷ 0x00 ∷ 0x00 ∷ 0x00 ∷ 0x00 ∷ 0x01 ∷ []) (Refused 1 2)
+    ∷ window 5 (0x00 ∷ 0x0c ∷ 0x5a ∷ 0x00 ∷ 0x00 ∷ 0x00 ∷ 0x00 ∷ 0x00 ∷ 0x00 ∷ 0x00 ∷ 0x00 ∷ 0x00 ∷ []) Incomplete
+    -- Line three: 2 at 13.
+    ∷ window 6 (0x00 ∷ 0x0c ∷ 0x53 ∷ 0x00 ∷ 0x00 ∷ 0x00 ∷ 0x00 ∷ 0x00 ∷ 0x00 ∷ 0x00 ∷ 0x00 ∷ 0x00 ∷ 0x03 ∷ 0x58 ∷ []) (Refused 2 13)
+    -- Cross code I: legal in Q, 2 at 50 in I.
+    ∷ window 7 q-with-i (Accepted (with-head 0x51 (Body·.CrossTrade intraday)) 42)
+    ∷ window 7 i-with-i (Refused 2 50)
+    -- R with M at 35: yes.
+    ∷ window 8 r-with-m (Accepted (with-head 0x52 (Body·.StockDirectory etp-yes)) 41)
+    -- A with byte ff in the stock, 34 bytes: 3 at 26; 33 bytes: incomplete; a bad side too: 2 at 21.
+    ∷ window 9 (a-with-ff 0x42 ++ (0x20 ∷ [])) (Refused 3 26)
+    ∷ window 9 (a-with-ff 0x42) Incomplete
+    ∷ window 9 (a-with-ff 0x58 ++ (0x20 ∷ [])) (Refused 2 21)
+    -- Frames 0000 and 00015a: 20.
+    ∷ frame 10 (0x00 ∷ 0x00 ∷ []) (Bad 20 0)
+    ∷ frame 10 (0x00 ∷ 0x01 ∷ 0x5a ∷ []) (Bad 20 0)
+    ∷ walk 10 (0x00 ∷ 0x00 ∷ 0x00 ∷ 0x01 ∷ 0x5a ∷ []) (walked (refused 0 2 20 0 ∷ refused 2 3 20 0 ∷ []) 5 0)
+    -- Line one with length 000d and one byte 00 more: 21.
+    ∷ frame 11 (0x00 ∷ 0x0d ∷ line-one ++ (0x00 ∷ [])) (Bad 21 0)
+    ∷ walk 11 (0x00 ∷ 0x0d ∷ line-one ++ (0x00 ∷ [])) (walked (refused 0 15 21 0 ∷ []) 15 0)
+    ∷ []
