@@ -10,7 +10,7 @@ use lib.ListN.{length, getD, take, drop, length-drop}
 use lib.Seq.{take-suc, take-add, getD-drop, drop-drop, drop-cons}
 use Rattle.format.specs.Layout.{beFrom, be, part}
 
-be-snoc : (v : ℕ) (bs : List ℕ) (b : ℕ) → beFrom v (bs ++ (b ∷ [])) ≡ beFrom v bs * 256 + b
+pub be-snoc : (v : ℕ) (bs : List ℕ) (b : ℕ) → beFrom v (bs ++ (b ∷ [])) ≡ beFrom v bs * 256 + b
 be-snoc v [] b = refl
 be-snoc v (x ∷ xs) b = be-snoc (v * 256 + x) xs b
 

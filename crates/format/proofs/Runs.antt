@@ -7,7 +7,7 @@ use Prim.Native.Nat.{ℕ, _+_}
 use native.Mathlib.Nat.{add-zero, add-assoc}
 use lib.ListN.{take, drop}
 use Rattle.format.specs.Layout.{Kind, width, widths, Got, got, field, Answer, accepted, step, read}
-use Rattle.format.specs.Rows.{Row, rows, Found, found, none, find, under, bodyOf}
+use Rattle.format.specs.Rows.{Row, rows, found, find, fieldsIn, under, bodyOf}
 use Rattle.format.specs.Meaning.{faultM, stopM}
 use Rattle.format.specs.declared.Fault.{Fault}
 use Rattle.format.specs.declared.Fault.the-variants.{Short, Refused}
@@ -53,11 +53,7 @@ pub stops : {s : List ℕ} {row : List Kind} {from : ℕ} {k : Kind} {ks : List 
     → field k s at ≡ faultM e → (acc : List ℕ) (go : List ℕ → ℕ → Answer) → read row s from acc go ≡ stopM e
 stops e u q acc go = passed u acc go .1 ∙ rw q (step-fault e _)
 
--- the fields of a tag's body, and that the first n of them have values
-abbrev fieldsIn : Found → List Kind
-fieldsIn (found r) = r .body
-fieldsIn none = []
-
+-- the first n fields of a tag's body have values
 abbrev pub Past : ℕ → List ℕ → ℕ → Type 0
 Past t s n = let ks : List Kind = fieldsIn (find rows t) in Upto s ks 13 (drop n ks) (13 + widths (take n ks))
 

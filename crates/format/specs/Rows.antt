@@ -82,6 +82,11 @@ abbrev pub find : List Row → ℕ → Found
 find [] t = none
 find (r ∷ rs) t = cond (eqb (r .tag) t) (found r) (find rs t)
 
+-- the fields of a tag's body, none where no tag is
+abbrev pub fieldsIn : Found → List Kind
+fieldsIn (found r) = r .body
+fieldsIn none = []
+
 -- a tag's size, zero where no tag is
 abbrev pub sizeIn : Found → ℕ
 sizeIn (found r) = r .size

@@ -81,7 +81,7 @@ all-read (k ∷ ks) s at acc go vs n e = next (field k s at) refl e (λ v. all-r
     next short q e′ rest = let z : _≡_ {A = ℕ} 0 1 = cc in absurd (omega arith)
     next (refused a b) q e′ rest = let z : _≡_ {A = ℕ} 0 1 = cc in absurd (omega arith)
 
-field-has : (k : Kind) (s : List ℕ) (at : ℕ) {v : List ℕ} → field k s at ≡ got v → at + width k ≤ length s
+pub field-has : (k : Kind) (s : List ℕ) (at : ℕ) {v : List ℕ} → field k s at ≡ got v → at + width k ≤ length s
 field-has k s at e =
     ⊎-elim (λ l. l)
     (λ l. let q : short ≡ field k s at = field-short k s at l in let z : _≡_ {A = ℕ} 0 1 = cc in absurd (omega arith))

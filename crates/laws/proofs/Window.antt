@@ -56,7 +56,7 @@ firm-pre acc (accepted vs n) f e = let z : _≡_ {A = ℕ} 0 1 = cc in omega ari
 firm-pre acc incomplete f e = f refl
 firm-pre acc (refuses n p) f e = let z : _≡_ {A = ℕ} 0 1 = cc in omega arith
 
-pre-accepted : (acc : List ℕ) (a : Answer) (vs : List ℕ) (n : ℕ) → pre acc a ≡ accepted vs n → (ws : List ℕ) × (a ≡ accepted ws n) × (acc ++ ws ≡ vs)
+pub pre-accepted : (acc : List ℕ) (a : Answer) (vs : List ℕ) (n : ℕ) → pre acc a ≡ accepted vs n → (ws : List ℕ) × (a ≡ accepted ws n) × (acc ++ ws ≡ vs)
 pre-accepted acc (accepted ws m) vs n e = let q : m ≡ n = cc in (ws, ap (accepted ws) q, cc)
 pre-accepted acc incomplete vs n e = let z : _≡_ {A = ℕ} 0 1 = cc in absurd (omega arith)
 pre-accepted acc (refuses m p) vs n e = let z : _≡_ {A = ℕ} 0 1 = cc in absurd (omega arith)

@@ -9,7 +9,7 @@ use lib.ListN.{length, getD, drop}
 use lib.Seq.{sets}
 use Rattle.format.specs.Ascii.{'␣'}
 use Rattle.format.specs.Layout.{Kind, num, time, text, code, etp, subtype, skip, width}
-use Rattle.format.specs.Rows.{rows, Found, found, none, find}
+use Rattle.format.specs.Rows.{rows, find, fieldsIn}
 use Rattle.format.specs.Utf8.{wellFormed}
 
 -- a number as w bytes, big-endian
@@ -68,10 +68,6 @@ putRow s at [] vs = s
 putRow s at (k ∷ ks) vs = putRow (putIn s at (digits (width k) (valueOf k vs))) (at + width k) ks (rest k vs)
 
 -- the fields of a tag's body
-abbrev pub fieldsIn : Found → List Kind
-fieldsIn (found r) = r .body
-fieldsIn none = []
-
 unfoldable pub layout : ℕ → List Kind
 layout t = fieldsIn (find rows t)
 

@@ -12,15 +12,15 @@ use lib.Seq.{drop-cons}
 use borrow.Author.Tests.{ne-eqb}
 use Rattle.format.specs.Ascii.{'␣', 'H', 'M', 'R', 'Y'}
 use Rattle.format.specs.Layout.{time, etp, skip, widths, be, part, judge, Answer, accepted, incomplete, refuses}
-use Rattle.format.specs.Rows.{rows, Found, found, none, find, under, header, sizeOf, bodyOf, window}
+use Rattle.format.specs.Rows.{rows, Found, found, none, find, fieldsIn, under, header, sizeOf, bodyOf, window}
 use Rattle.format.proofs.Tests.{le-or-lt}
 use Rattle.format.proofs.Bytes.{Bytes, be-below, be-one, part-split}
 use Rattle.format.proofs.Fields.{field-judged, field-num}
 use Rattle.format.proofs.Runs.{Reads, end, _⨾_}
 use Rattle.format.proofs.Windows.{pre, window-there, window-cut}
 use Rattle.laws.proofs.Rows.{all-read}
-use Rattle.laws.proofs.Window.{window-covers}
-use Rattle.pen.specs.Encode.{digits, write, fieldsIn, layout}
+use Rattle.laws.proofs.Window.{pre-accepted, window-covers}
+use Rattle.pen.specs.Encode.{digits, write, layout}
 use Rattle.records.specs.declared.Mpid.{Mpid}
 use Rattle.records.specs.declared.Mpid.the-variants.{Absent, Present}
 use Rattle.records.specs.declared.AddOrder.{AddOrder}
@@ -57,11 +57,6 @@ under-read none s t ws n e = let z : _≡_ {A = ℕ} 0 1 = cc in absurd (omega a
 body-read : (t : ℕ) (s ws : List ℕ) (n : ℕ) → bodyOf t s ≡ accepted ws n → (hs : List ℕ) × Reads s (layout t) 13 hs × (t ∷ hs ≡ ws)
 unfolding bodyOf layout
 body-read t s ws n e = under-read (find rows t) s t ws n e
-
-pre-accepted : (acc : List ℕ) (a : Answer) (vs : List ℕ) (n : ℕ) → pre acc a ≡ accepted vs n → (ws : List ℕ) × (a ≡ accepted ws n) × (acc ++ ws ≡ vs)
-pre-accepted acc (accepted ws m) vs n e = let q : m ≡ n = cc in (ws, ap (accepted ws) q, cc)
-pre-accepted acc incomplete vs n e = let z : _≡_ {A = ℕ} 0 1 = cc in absurd (omega arith)
-pre-accepted acc (refuses m p) vs n e = let z : _≡_ {A = ℕ} 0 1 = cc in absurd (omega arith)
 
 opened : (s : List ℕ) (m : Message) (n : ℕ) → window s ≡ accepted (messageValues m) n → Opened s m
 opened s m n e =

@@ -9,9 +9,9 @@ use lib.Dec.{eqb, ltb, leb}
 use lib.ListN.{length, drop}
 use borrow.Author.Tests.{eqb-true}
 use Rattle.format.specs.Layout.{widths, accepted, read}
-use Rattle.format.specs.Rows.{rows, Found, found, none, find, sizeIn, sizeOf, under, header, message, window}
+use Rattle.format.specs.Rows.{rows, Found, found, none, find, fieldsIn, sizeIn, sizeOf, under, header, message, window}
 use Rattle.format.proofs.Runs.{Reads, reads}
-use Rattle.pen.specs.Encode.{write, fieldsIn, layout, Sized}
+use Rattle.pen.specs.Encode.{write, layout, Sized}
 use Rattle.pen.proofs.Puts.{length-write}
 use Rattle.records.specs.declared.Message.{Message}
 use Rattle.records.specs.Values.{values}

@@ -16,9 +16,10 @@ use Rattle.format.specs.Codes.{etpFlag, subtypes}
 use Rattle.format.specs.Utf8.{wellFormed}
 use Rattle.format.specs.Layout.{Kind, num, time, text, code, etp, subtype, skip, width, widths, beFrom, be, part, member, asYes, Verdict, fine, wrong, judge, got, short, placed, field}
 use Rattle.format.proofs.Tests.{le-or-lt}
-use Rattle.format.proofs.Bytes.{Bytes, part-more}
-use Rattle.format.proofs.Fields.{field-judged, field-short}
+use Rattle.format.proofs.Bytes.{Bytes, be-snoc, part-more}
+use Rattle.format.proofs.Fields.{field-judged}
 use Rattle.format.proofs.Runs.{Reads, end, _⨾_}
+use Rattle.laws.proofs.Rows.{field-has}
 use Rattle.pen.specs.Encode.{digits, kept, valueOf, rest, write, textFine, textsFine, Sized}
 use Rattle.pen.proofs.Digits.{length-digits}
 
@@ -61,10 +62,6 @@ split k vs n h = go (kept k) vs h
     go true [] h = absurd (omega arith)
     go true (v ∷ vs) h = (refl, omega arith)
     go false vs h = (refl, omega arith)
-
-be-snoc : (v : ℕ) (bs : List ℕ) (b : ℕ) → beFrom v (bs ++ (b ∷ [])) ≡ beFrom v bs * 256 + b
-be-snoc v [] b = refl
-be-snoc v (x ∷ xs) b = be-snoc (v * 256 + x) xs b
 
 -- the number of w bytes of a number below 256 ^ w
 be-digits : (w v : ℕ) → v < 256 ^ w → be (digits w v) ≡ v
@@ -206,12 +203,6 @@ took skip bs v vs d e = let q : [] ≡ v = cc in subst (λ x. Took skip bs x vs)
 placed-got : (at : ℕ) (x : Verdict) (v : List ℕ) → placed at x ≡ got v → x ≡ fine v
 placed-got at (fine w) v e = cc
 placed-got at (wrong n o) v e = let z : _≡_ {A = ℕ} 0 1 = cc in absurd (omega arith)
-
-pub field-has : (k : Kind) (s : List ℕ) (at : ℕ) {v : List ℕ} → field k s at ≡ got v → at + width k ≤ length s
-field-has k s at e =
-    ⊎-elim (λ l. l)
-    (λ l. let q : short ≡ field k s at = field-short k s at l in let z : _≡_ {A = ℕ} 0 1 = cc in absurd (omega arith))
-    (le-or-lt (at + width k) (length s))
 
 -- writing what was read gives its bytes, tidied; its texts are UTF-8 and its codes legal
 pub took-row : {s : List ℕ} {ks : List Kind} {at : ℕ} {vs : List ℕ} → Reads s ks at vs → Bytes s
