@@ -28,6 +28,7 @@ pub enum Answer {
     Refused(u8, usize),
 }
 
+// The state behind a call, and what the call answers.
 pub struct Step {
     pub state: Stream,
     pub answer: Answer,
@@ -225,6 +226,7 @@ pub fn told_of(s: Stream, n: usize) -> Step
     marked(s, 10, 0)
 }
 
+// The caller says that the read failed.
 pub fn told_failed_of(s: Stream) -> Step
     ensures { λ r. ⌜ r ≡ failedOf s ⌝ }
 {

@@ -4,11 +4,18 @@ use mathlib.Core.Path.{_≡_, sym, _∙_}
 use borrow.Author.Tests.{le-leb, lt-leb, eq-eqb, ne-eqb}
 use native.Mathlib.Omega.{arith}
 use Rattle.reader.proofs.Back.{exactly}
+use Rattle.reader.specs.declared.Window.{Window}
 use Rattle.stream.specs.Next.{nextOf}
-use Rattle.stream.proofs.Windows.{decides, within}
+use Rattle.stream.proofs.Windows.{Decides, decides, within}
 use borrow.Author.Needs.{needs}
 use Rattle.stream.proofs.next_of.Statement.{statement}
 use Rattle.stream.proofs.next_of.Tie as tie
+
+-- behind the tests the reader's answer decides
+decided : (c : tie.After-parse-message) {w : Window} → c .parse-message .result ≡ w
+    → Decides (c .before .before .before .before .before .before .args .s) (c .before .before .before .before .before .before .args .buf .now) w
+decided c d =
+    decides _ _ (c .parse-message .result) (c .before .before .before .before .if1 .left) (c .before .before .before .if2 .left) (c .before .before .if3 .left) (c .parse-message .ensures) d
 
 refused-requires : tie.Need-refused-requires
 refused-requires c κs = search needs
@@ -47,9 +54,7 @@ refused-requires-4 : tie.Need-refused-requires-4
 refused-requires-4 c κs = search needs
 
 returns-4 : tie.Need-returns-4
-returns-4 c =
-    let d = decides (c .before .before .before .before .before .before .before .before .before .before .before .args .s) (c .before .before .before .before .before .before .before .before .before .before .before .args .buf .now) (c .before .before .before .before .before .parse-message .result) (c .before .before .before .before .before .before .before .before .before .if1 .left) (c .before .before .before .before .before .before .before .before .if2 .left) (c .before .before .before .before .before .before .before .if3 .left) (c .before .before .before .before .before .parse-message .ensures) (c .before .before .before .message .given .1) in
-    simp (d, eq-eqb _ _ (c .before .if4 .taken)) (c .refused4 .ensures)
+returns-4 c = simp (decided (c .before .before .before .before .before) (c .before .before .before .message .given .1), eq-eqb _ _ (c .before .if4 .taken)) (c .refused4 .ensures)
 
 add-t18 : tie.Need-add-t18
 add-t18 c =
@@ -69,15 +74,13 @@ marked-requires : tie.Need-marked-requires
 marked-requires c κs = search needs
 
 returns-5 : tie.Need-returns-5
-returns-5 c =
-    let d = decides (c .before .before .before .before .before .before .before .before .before .before .args .s) (c .before .before .before .before .before .before .before .before .before .before .args .buf .now) (c .before .before .before .before .parse-message .result) (c .before .before .before .before .before .before .before .before .if1 .left) (c .before .before .before .before .before .before .before .if2 .left) (c .before .before .before .before .before .before .if3 .left) (c .before .before .before .before .parse-message .ensures) (c .before .before .message .given .1) in
-    simp (d, ne-eqb _ _ (c .if4 .left))
+returns-5 c = simp (decided (c .before .before .before .before) (c .before .before .message .given .1), ne-eqb _ _ (c .if4 .left))
 
 returns-6 : tie.Need-returns-6
-returns-6 c = sym (decides (c .before .before .before .before .before .before .before .before .args .s) (c .before .before .before .before .before .before .before .before .args .buf .now) (c .before .before .parse-message .result) (c .before .before .before .before .before .before .if1 .left) (c .before .before .before .before .before .if2 .left) (c .before .before .before .before .if3 .left) (c .before .before .parse-message .ensures) (c .enum-told .given .1))
+returns-6 c = sym (decided (c .before .before) (c .enum-told .given .1))
 
 returns-7 : tie.Need-returns-7
-returns-7 c = c .marked .ensures ∙ sym (decides (c .before .before .before .before .before .before .before .before .before .before .args .s) (c .before .before .before .before .before .before .before .before .before .before .args .buf .now) (c .before .before .before .before .parse-message .result) (c .before .before .before .before .before .before .before .before .if1 .left) (c .before .before .before .before .before .before .before .if2 .left) (c .before .before .before .before .before .before .if3 .left) (c .before .before .before .before .parse-message .ensures) (c .before .before .number .given .1))
+returns-7 c = c .marked .ensures ∙ sym (decided (c .before .before .before .before) (c .before .before .number .given .1))
 
 pub next-of-spec : {M : Type 1} → statement M
 next-of-spec =
