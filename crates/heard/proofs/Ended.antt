@@ -19,13 +19,14 @@ use Rattle.stream.specs.State.{marks}
 use Rattle.stream.specs.Next.{windowAt, nextOf}
 use Rattle.stream.specs.Room.{roomBuffer}
 use Rattle.stream_laws.specs.Ends.{stops}
-use Rattle.stream_laws.proofs.Steps.{Next, 31-next, 30-next, 33-next, message, wants, marked-next, next-is, Room, 31-room, 30-room, 34-room, 33-room, front, there, room-is, Told, 30-told, 32-told, 33-told, came, nothing, marked-told, told-is}
+use Rattle.stream_laws.proofs.Steps.{31-next, 30-next, 33-next, Next, no-next, message, wants, marked-next, next-is, 31-room, 30-room, 34-room, 33-room, front, there, Room, no-room, made, room-is, 30-told, 32-told, 33-told, Told, no-told, came, nothing, marked-told, told-is}
+use Rattle.stream_laws.proofs.Calls.{next-waits}
 use Rattle.stream_laws.proofs.Reads52.{short}
 use Rattle.heard.specs.Heard.{Heard, before, ends, cutOf, heardOf}
 use Rattle.heard.specs.Runs.{Cutting, Read, roomed, toldAt, Stopped, by-next, by-room, by-told, Fits}
 use Rattle.heard.proofs.Inputs.{heard-cut, heard-bad}
 use Rattle.heard.proofs.Windows.{length-window, room-same}
-use Rattle.heard.proofs.Holds.{Holds, wants-waits, roomed-holds, holds}
+use Rattle.heard.proofs.Holds.{Holds, roomed-holds, holds}
 
 -- with what the input holds; or with 33, where the counts have no room for it
 abbrev pub Ends : List ℕ → List Record → Answer → Type 0
@@ -45,9 +46,9 @@ clear-marks s n p e = rw e
 next-ends : (input : List ℕ) (s : Stream) (b r : List ℕ) (ms : List Record) (x : Step) → Next s b x → stops (x .answer) ≡ true
     → Holds input 0 s b r ms → Ends input ms (x .answer)
 unfolding stops
-next-ends input s b r ms _ (31-next f) e q = absurd (f (q .whole))
-next-ends input s b r ms _ (30-next f) e q = absurd (f (q .sound))
-next-ends input s b r ms _ (33-next f) e q = inr (refl, λ l. omega (arith, q .counted, q .bytes))
+next-ends input s b r ms _ (no-next (31-next f)) e q = absurd (f (q .whole))
+next-ends input s b r ms _ (no-next (30-next f)) e q = absurd (f (q .sound))
+next-ends input s b r ms _ (no-next (33-next f)) e q = inr (refl, λ l. omega (arith, q .counted, q .bytes))
 next-ends input s b r ms _ (message h l m n w f) e q = let z : _≡_ {A = ℕ} 0 1 = cc in absurd (omega arith)
 next-ends input s b r ms _ (wants h l w) e q = let z : _≡_ {A = ℕ} 0 1 = cc in absurd (omega arith)
 next-ends input s b r ms _ (marked-next h l n p w) e q =
@@ -60,12 +61,12 @@ next-ends input s b r ms _ (marked-next h l n p w) e q =
 room-ends : (input : List ℕ) (s : Stream) (b r : List ℕ) (ms : List Record) (x : Step) → Room s (length b) x → stops (x .answer) ≡ true
     → s .end - s .start ≤ 51 → Holds input 0 s b r ms → Ends input ms (x .answer)
 unfolding stops
-room-ends input s b r ms _ (31-room f) e g q = absurd (f (q .whole))
-room-ends input s b r ms _ (30-room f) e g q = absurd (f (q .sound))
-room-ends input s b r ms _ (34-room f) e g q = absurd (omega arith)
-room-ends input s b r ms _ (33-room f) e g q = inr (refl, λ l. omega (arith, q .calls, q .bytes))
-room-ends input s b r ms _ (front h l f w a) e g q = let z : _≡_ {A = ℕ} 0 1 = cc in absurd (omega arith)
-room-ends input s b r ms _ (there h l f w a) e g q = let z : _≡_ {A = ℕ} 0 1 = cc in absurd (omega arith)
+room-ends input s b r ms _ (no-room (31-room f)) e g q = absurd (f (q .whole))
+room-ends input s b r ms _ (no-room (30-room f)) e g q = absurd (f (q .sound))
+room-ends input s b r ms _ (no-room (34-room f)) e g q = absurd (omega arith)
+room-ends input s b r ms _ (no-room (33-room f)) e g q = inr (refl, λ l. omega (arith, q .calls, q .bytes))
+room-ends input s b r ms _ (made (front p a)) e g q = let z : _≡_ {A = ℕ} 0 1 = cc in absurd (omega arith)
+room-ends input s b r ms _ (made (there p a)) e g q = let z : _≡_ {A = ℕ} 0 1 = cc in absurd (omega arith)
 
 -- ---- told stops
 
@@ -86,9 +87,9 @@ told-ends : (input : List ℕ) (s : Stream) (b r : List ℕ) (ms : List Record) 
     → Told s (y .brings .count) x → stops (x .answer) ≡ true → windowOf (windowAt s b) ≡ Incomplete
     → Holds input 1 s b r ms → Ends input ms (x .answer)
 unfolding stops
-told-ends input s b r ms y _ (30-told f) e g q = absurd (f (q .sound))
-told-ends input s b r ms y _ (32-told f) e g q = absurd (omega (arith, y .brings .fits, q .whole))
-told-ends input s b r ms y _ (33-told f) e g q = inr (refl, λ l. omega (arith, y .brings .left, q .bytes))
+told-ends input s b r ms y _ (no-told (30-told f)) e g q = absurd (f (q .sound))
+told-ends input s b r ms y _ (no-told (32-told f)) e g q = absurd (omega (arith, y .brings .fits, q .whole))
+told-ends input s b r ms y _ (no-told (33-told f)) e g q = inr (refl, λ l. omega (arith, y .brings .left, q .bytes))
 told-ends input s b r ms y _ (came h k c d) e g q = let z : _≡_ {A = ℕ} 0 1 = cc in absurd (omega arith)
 told-ends input s b r ms y _ (nothing h k d) e g q =
     let z : s .end - s .start ≡ 0 = omega arith in
@@ -104,15 +105,15 @@ told-ends input s b r ms y _ (marked-told h k f) e g q =
 still-short : (s : Stream) (b : List ℕ) → nextOf s b .answer ≡ Wants → roomed s b .answer ≡ Ready
     → windowOf (windowAt (roomed s b .state) (roomBuffer (nextOf s b .state) b)) ≡ Incomplete
 still-short s b w e =
-    let k = wants-waits s b w in
+    let k = next-waits s b w in
     ap windowOf (room-same (nextOf s b .state) b e .window ∙ ap (λ (x : Stream). windowAt x b) (k .kept)) ∙ k .short
 
 pub ended : {may : Cutting} {input : List ℕ} {ms : List Record} {a : Answer} → Stopped may input ms a → Ends input ms a
 ended {input = input} (by-next {s = s} {b = b} {r = r} {ms = ms} p e) = next-ends input s b r ms (nextOf s b) (next-is s b) e (holds p)
 ended {input = input} (by-room {s = s} {b = b} {r = r} {ms = ms} p w e) =
-    let k = wants-waits s b w .kept in
+    let k = next-waits s b w .kept in
     room-ends input (nextOf s b .state) b r ms (roomed s b) (room-is (nextOf s b .state) (length b)) e
-    (rw k (short s b (nextOf s b) (next-is s b) w)) (rw k (holds p))
+    (rw k (short s b w)) (rw k (holds p))
 ended {may} {input = input} (by-told {s = s} {b = b} {r = r} {ms = ms} p w e q t) =
     told-ends input (roomed s b .state) (roomBuffer (nextOf s b .state) b) r ms q (toldAt may s b r q)
     (told-is (roomed s b .state) (q .brings .count)) t (still-short s b w e) (roomed-holds input s b r ms w e (holds p))

@@ -16,12 +16,11 @@ use Rattle.stream.specs.Next.{windowAt, nextOf}
 use Rattle.stream.specs.Room.{roomBuffer}
 use Rattle.stream.proofs.Windows.{within}
 use Rattle.stream_laws.specs.Ends.{stops}
-use Rattle.stream_laws.proofs.Steps.{Next, 31-next, 30-next, 33-next, message, wants, marked-next, next-is, Room, 31-room, 30-room, 34-room, 33-room, front, there, room-is, Told, 30-told, 32-told, 33-told, came, nothing, marked-told, told-is}
-use Rattle.stream_laws.proofs.Calls.{marks-stops, room-ready}
+use Rattle.stream_laws.proofs.Steps.{Next, no-next, message, wants, marked-next, next-is, front, there, Room, no-room, made, room-is, Told, no-told, came, nothing, marked-told, told-is}
+use Rattle.stream_laws.proofs.Calls.{marks-stops, next-waits, room-ready}
 use Rattle.heard.specs.Runs.{Cutting, Brings, Feeds, Read, roomed, ReadAt, toldAt, Run, fresh, message as a-message, read, Stopped, by-next, by-room, by-told}
 use Rattle.heard.proofs.Inputs.{some}
 use Rattle.heard.proofs.Windows.{room-same}
-use Rattle.heard.proofs.Holds.{wants-waits}
 
 -- bytes that a read brings can be put into the free part
 reads : {may : Cutting} (e : ℕ) (b r : List ℕ) → e ≤ length b → Brings may (length b - e) r → Read may e b r
@@ -56,15 +55,13 @@ module _ (may : Cutting) (input : List ℕ) (feeds : Feeds may) where
     told : nextOf s b .answer ≡ Wants → roomed s b .answer ≡ Ready → (q : ReadAt may s b r) (x : Step) → toldAt may s b r q ≡ x
         → Told (roomed s b .state) (q .brings .count) x → Some may input
     unfolding stops
-    told w e q _ d (30-told _) = (ms, _, by-told p w e q (ends d refl))
-    told w e q _ d (32-told _) = (ms, _, by-told p w e q (ends d refl))
-    told w e q _ d (33-told _) = (ms, _, by-told p w e q (ends d refl))
+    told w e q _ d (no-told _) = (ms, _, by-told p w e q (ends d refl))
     told w e q _ d (nothing _ _ _) = (ms, _, by-told p w e q (ends d refl))
     told w e q _ d (marked-told _ _ _) = (ms, _, by-told p w e q (ends d (marks-stops (roomed s b .state) 10 0)))
     told w e q _ d (came h a i j) =
         let n = q .brings .count in
         let y = room-ready (nextOf s b .state) (length b) e in
-        let z = wants-waits s b w .kept in
+        let z = next-waits s b w .kept in
         go (toldAt may s b r q .state) (q .buffer) (drop n r) ms (read p w e q (ap (λ (x : Step). x .answer) d))
         (rw (ap (λ (x : Step). todo (x .state) (drop n r)) d, length-drop)
         (read-less (roomed s b .state .start) (roomed s b .state .end) n (length r) (todo s r) k (y .ordered) a (q .brings .left)
@@ -81,18 +78,13 @@ module _ (may : Cutting) (input : List ℕ) (feeds : Feeds may) where
 
     room : nextOf s b .answer ≡ Wants → (x : Step) → roomed s b ≡ x → Room (nextOf s b .state) (length b) x → Some may input
     unfolding stops
-    room w _ d (31-room _) = (ms, _, by-room p w (ends d refl))
-    room w _ d (30-room _) = (ms, _, by-room p w (ends d refl))
-    room w _ d (34-room _) = (ms, _, by-room p w (ends d refl))
-    room w _ d (33-room _) = (ms, _, by-room p w (ends d refl))
-    room w _ d (front _ _ _ _ _) = goes w (ap (λ (x : Step). x .answer) d)
-    room w _ d (there _ _ _ _ _) = goes w (ap (λ (x : Step). x .answer) d)
+    room w _ d (no-room _) = (ms, _, by-room p w (ends d refl))
+    room w _ d (made (front _ _)) = goes w (ap (λ (x : Step). x .answer) d)
+    room w _ d (made (there _ _)) = goes w (ap (λ (x : Step). x .answer) d)
 
     next : (x : Step) → nextOf s b ≡ x → Next s b x → Some may input
     unfolding stops
-    next _ d (31-next _) = (ms, _, by-next p (ends d refl))
-    next _ d (30-next _) = (ms, _, by-next p (ends d refl))
-    next _ d (33-next _) = (ms, _, by-next p (ends d refl))
+    next _ d (no-next _) = (ms, _, by-next p (ends d refl))
     next _ d (marked-next h l n i w) = (ms, _, by-next p (ends d (marks-stops s n i)))
     next _ d (wants h l w) = room (ap (λ (x : Step). x .answer) d) (roomed s b) refl (room-is (nextOf s b .state) (length b))
     next _ d (message h l m n w j) =

@@ -13,17 +13,16 @@ use Rattle.reader.specs.declared.Window.the-variants.{Message as Accepted, Inco
 use Rattle.reader.specs.Window.{windowOf}
 use Rattle.laws.proofs.Answers.{keeps}
 use Rattle.stream.specs.declared.Stream.{Stream}
-use Rattle.stream.specs.declared.Step.{Step}
 use Rattle.stream.specs.declared.Answer.the-variants.{Message, Wants, Ready}
-use Rattle.stream.specs.State.{freshState, marks}
+use Rattle.stream.specs.State.{freshState}
 use Rattle.stream.specs.Next.{windowAt, nextOf}
 use Rattle.stream.specs.Room.{roomOf, roomBuffer}
+use Rattle.stream.specs.Told.{toldOf}
 use Rattle.stream.proofs.Windows.{within}
 use Rattle.stream_laws.specs.Runs.{Sound}
-use Rattle.stream_laws.proofs.Steps.{Next, 31-next, 30-next, 33-next, message, wants, marked-next, next-is, Told, 30-told, 32-told, 33-told, came, nothing, marked-told, told-is}
-use Rattle.stream_laws.proofs.Calls.{marks-stops, no-message, no-wants, no-ready, room-ready}
+use Rattle.stream_laws.proofs.Calls.{next-takes, next-waits, room-ready, told-came}
 use Rattle.heard.specs.Heard.{Heard, before, heardOf}
-use Rattle.heard.specs.Runs.{Cutting, Read, roomed, toldAt, Run, fresh, message as a-message, read}
+use Rattle.heard.specs.Runs.{Cutting, Read, roomed, Run, fresh, message, read}
 use Rattle.heard.proofs.Inputs.{some, heard-message}
 use Rattle.heard.proofs.Windows.{window-taken, window-put, room-same}
 
@@ -60,50 +59,28 @@ heard-on w r m n e =
     heard-message (w ++ r) m n (keeps w r (λ (f : windowOf w ≡ Incomplete). let z : _≡_ {A = ℕ} 0 1 = cc in omega arith) ∙ e)
     ∙ ap (λ (x : List ℕ). before (m ∷ []) (heardOf x)) (drop-append-le n w r (some w m n e .1))
 
-taken-holds : (input : List ℕ) (s : Stream) (b r : List ℕ) (ms : List Record) (x : Step) (m : Record) → Next s b x → x .answer ≡ Message m
-    → Holds input 0 s b r ms → Holds input 0 (x .state) b r (ms ++ (m ∷ []))
-taken-holds input s b r ms _ m (31-next _) e q = let z : _≡_ {A = ℕ} 0 1 = cc in absurd (omega arith)
-taken-holds input s b r ms _ m (30-next _) e q = let z : _≡_ {A = ℕ} 0 1 = cc in absurd (omega arith)
-taken-holds input s b r ms _ m (33-next _) e q = let z : _≡_ {A = ℕ} 0 1 = cc in absurd (omega arith)
-taken-holds input s b r ms _ m (wants h l w) e q = let z : _≡_ {A = ℕ} 0 1 = cc in absurd (omega arith)
-taken-holds input s b r ms _ m (marked-next h l n p w) e q = absurd (no-message (marks s n p .answer) m (marks-stops s n p) e)
-taken-holds input s b r ms _ m (message h l m′ n w f) e q =
-    let same : m′ ≡ m = cc in
-    let u : n ≤ s .end - s .start = within s b m′ n w in
-    let o : 0 < n = some (windowAt s b) m′ n w .0 in
-    let c = q .counted in
-    record {
+taken-holds : (input : List ℕ) (s : Stream) (b r : List ℕ) (ms : List Record) (m : Record) → nextOf s b .answer ≡ Message m
+    → Holds input 0 s b r ms → Holds input 0 (nextOf s b .state) b r (ms ++ (m ∷ []))
+taken-holds input s b r ms m e q =
+    let t = next-takes s b m e in
+    let n = t .used in
+    let h = t .sound in
+    let u : n ≤ s .end - s .start = within s b m n (t .accepts) in
+    let o : 0 < n = some (windowAt s b) m n (t .accepts) .0 in
+    rw (t .step) (record {
       sound = record { ordered = omega (arith, h .ordered); inside = h .inside };
-      whole = l;
+      whole = t .whole;
       clear = refl;
       heard =
           q .heard
-          ∙ ap (before ms) (heard-on (windowAt s b) r m′ n w)
-          ∙ ap (λ (x : List ℕ). before ms (before (m′ ∷ []) (heardOf (x ++ r))))
-          (sym (window-taken b (s .start) (s .end) n u (omega (arith, h .inside))))
-          ∙ one-more ms m′ _
-          ∙ ap (λ (x : Record). before (ms ++ (x ∷ [])) (heardOf (take (s .end - (s .start + n)) (drop (s .start + n) b) ++ r))) same;
+          ∙ ap (before ms) (heard-on (windowAt s b) r m n (t .accepts))
+          ∙ ap (λ (x : List ℕ). before ms (before (m ∷ []) (heardOf (x ++ r))))
+          (sym (window-taken b (s .start) (s .end) n u (omega (arith, h .inside, t .whole))))
+          ∙ one-more ms m _;
       bytes = q .bytes;
       calls = q .calls;
-      counted = omega arith;
-    }
-
--- ---- next wants bytes: the state stays
-
-pub record Waits (s : Stream) (b : List ℕ) (t : Stream) : Type 0 where
-  pub kept : t ≡ s
-  pub short : windowOf (windowAt s b) ≡ Incomplete
-
-wants-step : (s : Stream) (b : List ℕ) (x : Step) → Next s b x → x .answer ≡ Wants → Waits s b (x .state)
-wants-step s b _ (31-next _) e = let z : _≡_ {A = ℕ} 0 1 = cc in absurd (omega arith)
-wants-step s b _ (30-next _) e = let z : _≡_ {A = ℕ} 0 1 = cc in absurd (omega arith)
-wants-step s b _ (33-next _) e = let z : _≡_ {A = ℕ} 0 1 = cc in absurd (omega arith)
-wants-step s b _ (message h l m n w f) e = let z : _≡_ {A = ℕ} 0 1 = cc in absurd (omega arith)
-wants-step s b _ (marked-next h l n p w) e = absurd (no-wants (marks s n p .answer) (marks-stops s n p) e)
-wants-step s b _ (wants h l w) e = record { kept = refl; short = w }
-
-pub wants-waits : (s : Stream) (b : List ℕ) → nextOf s b .answer ≡ Wants → Waits s b (nextOf s b .state)
-wants-waits s b e = wants-step s b (nextOf s b) (next-is s b) e
+      counted = omega (arith, q .counted);
+    })
 
 -- ---- room is made
 
@@ -124,20 +101,17 @@ room-holds input s b r ms e q =
 
 -- ---- bytes came
 
-fed-holds : (input : List ℕ) (s : Stream) (b r : List ℕ) (ms : List Record) {may : Cutting} (q : Read may (s .end) b r) (x : Step)
-    → Told s (q .brings .count) x → x .answer ≡ Ready
-    → Holds input 1 s b r ms → Holds input 0 (x .state) (q .buffer) (drop (q .brings .count) r) ms
-fed-holds input s b r ms q _ (30-told _) e p = let z : _≡_ {A = ℕ} 0 1 = cc in absurd (omega arith)
-fed-holds input s b r ms q _ (32-told _) e p = let z : _≡_ {A = ℕ} 0 1 = cc in absurd (omega arith)
-fed-holds input s b r ms q _ (33-told _) e p = let z : _≡_ {A = ℕ} 0 1 = cc in absurd (omega arith)
-fed-holds input s b r ms q _ (nothing h y d) e p = let z : _≡_ {A = ℕ} 0 1 = cc in absurd (omega arith)
-fed-holds input s b r ms q _ (marked-told h y _) e p = absurd (no-ready (marks s 10 0 .answer) (marks-stops s 10 0) e)
-fed-holds input s b r ms q _ (came h a c d) e p =
+fed-holds : (input : List ℕ) (s : Stream) (b r : List ℕ) (ms : List Record) {may : Cutting} (q : Read may (s .end) b r)
+    → toldOf s (q .brings .count) .answer ≡ Ready
+    → Holds input 1 s b r ms → Holds input 0 (toldOf s (q .brings .count) .state) (q .buffer) (drop (q .brings .count) r) ms
+fed-holds input s b r ms q e p =
     let n = q .brings .count in
     let w = windowAt s b in
     let i = s .start in
-    record {
-      sound = record { ordered = omega (arith, h .ordered); inside = omega (arith, h .inside) };
+    let t = told-came s n e in
+    let h = t .sound in
+    rw (t .step) (record {
+      sound = record { ordered = omega (arith, h .ordered); inside = omega (arith, h .inside, t .fits) };
       whole = q .long ∙ p .whole;
       clear = p .clear;
       heard =
@@ -147,9 +121,9 @@ fed-holds input s b r ms q _ (came h a c d) e p =
           ∙ ap (λ (x : List ℕ). before ms (heardOf (x ++ drop n r)))
           (sym (window-put b (q .buffer) (take n r) i (s .end) n (h .ordered) (omega (arith, h .inside, p .whole)) (q .long) (q .put)));
       bytes = omega (arith, p .bytes, q .brings .left, length-drop n r);
-      calls = omega (arith, p .calls);
+      calls = omega (arith, p .calls, t .some);
       counted = omega (arith, p .counted, h .ordered);
-    }
+    })
 
 -- ---- so at every point
 
@@ -157,11 +131,10 @@ fed-holds input s b r ms q _ (came h a c d) e p =
 pub roomed-holds : (input : List ℕ) (s : Stream) (b r : List ℕ) (ms : List Record) → nextOf s b .answer ≡ Wants → roomed s b .answer ≡ Ready
     → Holds input 0 s b r ms → Holds input 1 (roomed s b .state) (roomBuffer (nextOf s b .state) b) r ms
 roomed-holds input s b r ms w e q =
-    room-holds input (nextOf s b .state) b r ms e (rw (wants-waits s b w .kept) q)
+    room-holds input (nextOf s b .state) b r ms e (rw (next-waits s b w .kept) q)
 
 pub holds : {may : Cutting} {input : List ℕ} {s : Stream} {b r : List ℕ} {ms : List Record} → Run may input s b r ms → Holds input 0 s b r ms
 holds {input = input} (fresh {b = b} l) = holds-fresh input b l
-holds {input = input} (a-message {s = s} {b = b} {r = r} {ms = ms} p m e) = taken-holds input s b r ms (nextOf s b) m (next-is s b) e (holds p)
+holds {input = input} (message {s = s} {b = b} {r = r} {ms = ms} p m e) = taken-holds input s b r ms m e (holds p)
 holds {may} {input = input} (read {s = s} {b = b} {r = r} {ms = ms} p w e q t) =
-    fed-holds input (roomed s b .state) (roomBuffer (nextOf s b .state) b) r ms q (toldAt may s b r q)
-    (told-is (roomed s b .state) (q .brings .count)) t (roomed-holds input s b r ms w e (holds p))
+    fed-holds input (roomed s b .state) (roomBuffer (nextOf s b .state) b) r ms q t (roomed-holds input s b r ms w e (holds p))

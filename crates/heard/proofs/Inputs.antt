@@ -12,8 +12,8 @@ use Rattle.reader.specs.Window.{windowOf}
 use Rattle.reader.specs.declared.Window.{Window}
 use Rattle.reader.specs.declared.Window.the-variants.{Message as Accepted, Incomplete, Refused as Bad}
 use Rattle.laws.proofs.Answers.{covers}
+use Rattle.laws.proofs.Numbers.{number-low}
 use Rattle.stream.specs.declared.Answer.the-variants.{Refused}
-use Rattle.stream_laws.proofs.Numbers.{number-low}
 use Rattle.heard.specs.Heard.{Heard, before, ends, cutOf, heardBy, heardAt, heardOf, Stop, nothing, bad, inside}
 
 -- a message has a byte at least, and no more than there are

@@ -5,16 +5,17 @@ use mathlib.Core.Path.{_≡_, refl, sym, ap, _∙_}
 use mathlib.Core.List.{List, _++_}
 use native.Mathlib.Nat.{sub-zero}
 use native.Mathlib.Omega.{arith}
-use borrow.Author.Tests.{le-leb, lt-leb, eq-eqb, ne-eqb}
 use lib.ListN.{length, take, drop, length-append, length-take, length-drop}
 use lib.Seq.{length-take-le, take-add, take-append-le, drop-append-le, drop-at, drop-drop}
 use Rattle.stream.specs.declared.Stream.{Stream}
 use Rattle.stream.specs.declared.Step.{Step}
 use Rattle.stream.specs.declared.Answer.the-variants.{Ready}
 use Rattle.stream.specs.Next.{windowAt}
-use Rattle.stream.specs.Room.{moved, roomOf, roomBuffer}
+use Rattle.stream.specs.Room.{roomOf, roomBuffer}
+use Rattle.stream.proofs.Rooms.{at-end, before-end}
 use Rattle.stream_laws.specs.Runs.{Sound}
-use Rattle.stream_laws.proofs.Steps.{Room, 31-room, 30-room, 34-room, 33-room, front, there, room-is}
+use Rattle.stream_laws.proofs.Steps.{Made, front, there}
+use Rattle.stream_laws.proofs.Calls.{room-made}
 
 -- a part from i on, of n bytes
 part : (b : List ℕ) (i n : ℕ) → i ≤ length b → take n (drop i b) ≡ drop i (take (i + n) b)
@@ -49,27 +50,17 @@ pub record Same (s : Stream) (b : List ℕ) (t : Stream) (c : List ℕ) : Type 0
   pub window : windowAt t c ≡ windowAt s b
   pub error : t .error ≡ s .error
 
-room-step : (s : Stream) (b : List ℕ) (x : Step) → Room s (length b) x → x .answer ≡ Ready → Same s b (x .state) (roomBuffer s b)
-unfolding roomBuffer
-room-step s b _ (31-room _) e = let z : _≡_ {A = ℕ} 0 1 = cc in absurd (omega arith)
-room-step s b _ (30-room _) e = let z : _≡_ {A = ℕ} 0 1 = cc in absurd (omega arith)
-room-step s b _ (34-room _) e = let z : _≡_ {A = ℕ} 0 1 = cc in absurd (omega arith)
-room-step s b _ (33-room _) e = let z : _≡_ {A = ℕ} 0 1 = cc in absurd (omega arith)
-room-step s b _ (front h l r w a) e =
-    let c : roomBuffer s b ≡ moved b (s .start) =
-    simp (eq-eqb _ _ l, le-leb _ _ (h .ordered), le-leb _ _ (h .inside), lt-leb _ _ w, ne-eqb _ _ r, eq-eqb _ _ a) in
-    rw c (record {
-      long = simp (length-append, length-drop) (omega (arith, h .ordered, h .inside));
+room-step : (s : Stream) (b : List ℕ) (x : Step) → Made s (length b) x → Same s b (x .state) (roomBuffer s b)
+room-step s b _ (front p a) =
+    rw (at-end s b p a .1) (record {
+      long = simp (length-append, length-drop) (omega (arith, p .ordered, p .inside, p .whole));
       window =
           rw sub-zero
           (take-append-le (s .end - s .start) (drop (s .start) b) (drop (length b - s .start) b)
-          (simp length-drop (omega (arith, h .ordered, h .inside))));
+          (simp length-drop (omega (arith, p .ordered, p .inside, p .whole))));
       error = refl;
     })
-room-step s b _ (there h l r w a) e =
-    let c : roomBuffer s b ≡ b =
-    simp (eq-eqb _ _ l, le-leb _ _ (h .ordered), le-leb _ _ (h .inside), lt-leb _ _ w, ne-eqb _ _ r, ne-eqb (s .end) 8192 (λ z. omega arith)) in
-    rw c (record { long = l; window = refl; error = refl })
+room-step s b _ (there p a) = rw (before-end s b p (λ z. omega arith) .1) (record { long = p .whole; window = refl; error = refl })
 
 pub room-same : (s : Stream) (b : List ℕ) → roomOf s (length b) .answer ≡ Ready → Same s b (roomOf s (length b) .state) (roomBuffer s b)
-room-same s b e = room-step s b (roomOf s (length b)) (room-is s (length b)) e
+room-same s b e = room-step s b (roomOf s (length b)) (room-made s (length b) e)

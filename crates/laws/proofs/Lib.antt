@@ -1,4 +1,5 @@
 pub mod Rows
 pub mod Window
 pub mod Answers
+pub mod Numbers
 pub mod Unique

@@ -1,6 +1,6 @@
 -- Laws of the play: the steps of a call, from what its callees ensure, and that more tries than unread bytes change nothing.
 -- Assumes nothing.
-use Prim.Native.Nat.{ℕ, zero, suc, _+_, _-_, _≤_, _<_, min}
+use Prim.Native.Nat.{ℕ, zero, suc, _+_, _-_, _≤_, _<_}
 use mathlib.Core.Path.{_≡_, refl, sym, ap, _∙_}
 use mathlib.Core.List.{List, _++_}
 use native.Mathlib.Omega.{arith}
@@ -9,7 +9,7 @@ use Rattle.stream.specs.declared.Stream.{Stream}
 use Rattle.stream.specs.declared.Step.{Step}
 use Rattle.stream.specs.declared.Answer.{Answer}
 use Rattle.stream.specs.declared.Answer.the-variants.{Message, Wants, Ready, Nothing, Refused}
-use Rattle.stream_laws.proofs.Calls.{told-heard}
+use Rattle.stream_laws.proofs.Calls.{told-came}
 use Rattle.stream.specs.Next.{nextOf}
 use Rattle.stream.specs.Told.{toldOf}
 use Rattle.stream.specs.Room.{roomOf, roomBuffer}
@@ -60,7 +60,7 @@ same-feed : (src : List ℕ) (w : ℕ) (g h : Goes) (s : Stream) (b : List ℕ) 
 unfolding feedBy
 same-feed src w g h s b at le same =
     let k = pieceOf (length b - s .end) (length src - at) w in
-    same-ready g h _ _ _ _ (λ e. same _ _ (at + k) (more k (told-heard s k .some e)) (fits k (omega arith)))
+    same-ready g h _ _ _ _ (λ e. same _ _ (at + k) (more k (told-came s k e .some)) (fits k (omega arith)))
   where
     more : (k : ℕ) → 0 < k → at < at + k
     more k h = omega arith
@@ -132,7 +132,7 @@ module _ (src : List ℕ) (w : ℕ) (s : Stream) (b : List ℕ) (at : ℕ) where
     told-halts f = sym (halts-ready left (t .state) (t .answer) b₂ (at + n) f) ∙ told
 
     pub brings : t .answer ≡ Ready → 0 < n
-    brings h = told-heard (r .state) n .some (ap (λ (x : Step). x .answer) (sym et) ∙ h)
+    brings h = told-came (r .state) n (ap (λ (x : Step). x .answer) (sym et) ∙ h) .some
 
     pub told-goes : at ≤ length src → t .answer ≡ Ready → tryOf src w (t .state) b₂ (at + n) ≡ fetchOf src w s b at
     told-goes le h =

@@ -1,9 +1,10 @@
 -- A sound state is never refused with 30, and every state that the calls reach from the fresh one is sound.
 -- Assumes nothing.
 use Prim.Native.Nat.{ℕ, _≤_}
-use mathlib.Core.Path.{_≡_, sym, ap, _∙_}
+use mathlib.Core.Path.{_≡_}
 use mathlib.Core.List.{List}
 use native.Mathlib.Omega.{arith}
+use Rattle.laws.proofs.Numbers.{number-low}
 use Rattle.stream.specs.declared.Stream.{Stream}
 use Rattle.stream.specs.declared.Step.{Step}
 use Rattle.stream.specs.declared.Answer.{Answer}
@@ -13,8 +14,7 @@ use Rattle.stream.specs.Next.{windowAt, nextOf}
 use Rattle.stream.specs.Room.{roomOf}
 use Rattle.stream.specs.Told.{toldOf, failedOf}
 use Rattle.stream_laws.specs.Runs.{Sound, Reached}
-use Rattle.stream_laws.proofs.Steps.{test, Next, 31-next, 30-next, 33-next, message, wants, marked-next, next-is, Room, 31-room, 30-room, 34-room, 33-room, front, there, room-is, Told, 30-told, 32-told, 33-told, came, nothing, marked-told, told-is, Failed, 30-failed, marked-failed, failed-is}
-use Rattle.stream_laws.proofs.Numbers.{number-low}
+use Rattle.stream_laws.proofs.Steps.{test, 31-next, 30-next, 33-next, Next, no-next, message, wants, marked-next, next-is, 31-room, 30-room, 34-room, 33-room, front, there, Room, no-room, made, room-is, 30-told, 32-told, 33-told, Told, no-told, came, nothing, marked-told, told-is, Failed, 30-failed, marked-failed, failed-is}
 use Rattle.stream_laws.proofs.Reach.{known}
 
 -- the number of an answer; 0 if it is no refusal
@@ -34,27 +34,27 @@ marks-not s n p h = test Not30 (s .error) (λ _ e. omega arith) (λ _ e. omega a
 
 next-not : (s : Stream) (b : List ℕ) (x : Step) → Next s b x → Sound s → Not30 x
 unfolding numberOf
-next-not s b _ (31-next _) h e = omega arith
-next-not s b _ (30-next f) h e = f h
-next-not s b _ (33-next _) h e = omega arith
+next-not s b _ (no-next (31-next _)) h e = omega arith
+next-not s b _ (no-next (30-next f)) h e = f h
+next-not s b _ (no-next (33-next _)) h e = omega arith
 next-not s b _ (message g l m n w f) h e = omega arith
 next-not s b _ (wants g l w) h e = omega arith
 next-not s b _ (marked-next g l n p w) h e = marks-not s n p (omega (arith, number-low (windowAt s b) n p w)) e
 
 room-not : (s : Stream) (len : ℕ) (x : Step) → Room s len x → Sound s → Not30 x
 unfolding numberOf
-room-not s len _ (31-room _) h e = omega arith
-room-not s len _ (30-room f) h e = f h
-room-not s len _ (34-room _) h e = omega arith
-room-not s len _ (33-room _) h e = omega arith
-room-not s len _ (front g l f w a) h e = omega arith
-room-not s len _ (there g l f w a) h e = omega arith
+room-not s len _ (no-room (31-room _)) h e = omega arith
+room-not s len _ (no-room (30-room f)) h e = f h
+room-not s len _ (no-room (34-room _)) h e = omega arith
+room-not s len _ (no-room (33-room _)) h e = omega arith
+room-not s len _ (made (front p a)) h e = omega arith
+room-not s len _ (made (there p a)) h e = omega arith
 
 told-not : (s : Stream) (n : ℕ) (x : Step) → Told s n x → Sound s → Not30 x
 unfolding numberOf
-told-not s n _ (30-told f) h e = f h
-told-not s n _ (32-told _) h e = omega arith
-told-not s n _ (33-told _) h e = omega arith
+told-not s n _ (no-told (30-told f)) h e = f h
+told-not s n _ (no-told (32-told _)) h e = omega arith
+told-not s n _ (no-told (33-told _)) h e = omega arith
 told-not s n _ (came g a c d) h e = omega arith
 told-not s n _ (nothing g z d) h e = omega arith
 told-not s n _ (marked-told g z _) h e = marks-not s 10 0 (omega arith) e

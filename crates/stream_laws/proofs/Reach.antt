@@ -6,20 +6,18 @@ use mathlib.Core.List.{List}
 use native.Mathlib.Omega.{arith}
 use Rattle.records.specs.declared.Message.{Message as Record}
 use Rattle.stream.specs.declared.Stream.{Stream}
-use Rattle.stream.specs.declared.Step.{Step}
 use Rattle.stream.specs.declared.Answer.the-variants.{Message, Ready}
-use Rattle.stream.specs.State.{marks}
 use Rattle.stream.specs.Next.{nextOf}
 use Rattle.stream.specs.Room.{roomOf}
 use Rattle.stream.specs.Told.{toldOf}
 use Rattle.stream.proofs.Windows.{within}
-use Rattle.stream_laws.specs.Runs.{Sound, Reached, fresh, message as a-message, other, room, no-room, told, not-told, failed}
-use Rattle.stream_laws.proofs.Steps.{Next, 31-next, 30-next, 33-next, message, wants, marked-next, next-is, Room, 31-room, 30-room, 34-room, 33-room, front, there, room-is, Told, 30-told, 32-told, 33-told, came, nothing, marked-told, told-is}
-use Rattle.stream_laws.proofs.Calls.{Kept, kept, marks-kept, marks-stops, no-message, no-ready, next-other, room-refused, failed-stops}
+use Rattle.stream_laws.specs.Runs.{Sound, Reached, fresh, message, other, room, no-room, told, not-told, failed}
+use Rattle.stream_laws.proofs.Calls.{Kept, next-takes, next-other, room-ready, room-refused, told-came, told-kept, failed-stops}
 
-kept-sound : {s t : Stream} → Kept s t → Sound s → Sound t
+pub kept-sound : {s t : Stream} → Kept s t → Sound s → Sound t
 kept-sound k h = record { ordered = omega (arith, k .start, k .end, h .ordered); inside = omega (arith, k .end, h .inside) }
 
+-- a count that is not at its end can rise
 below : (k : ℕ) → k ≤ 18446744073709551615 → (k ≡ 18446744073709551615 → ⊥) → k + 1 ≤ 18446744073709551615
 below k h f = omega (arith, h, f)
 
@@ -44,75 +42,47 @@ kept-known p q = record {
   messages-fit = q .messages-fit;
 }
 
-taken-known : (s : Stream) (b : List ℕ) (r : Record) (x : Step) {i j k : ℕ} → Next s b x → x .answer ≡ Message r → Known s i j k → Known (x .state) i j (k + 1)
-taken-known s b r _ (31-next _) e q = let z : _≡_ {A = ℕ} 0 1 = cc in absurd (omega arith)
-taken-known s b r _ (30-next _) e q = let z : _≡_ {A = ℕ} 0 1 = cc in absurd (omega arith)
-taken-known s b r _ (33-next _) e q = let z : _≡_ {A = ℕ} 0 1 = cc in absurd (omega arith)
-taken-known s b r _ (wants h l w) e q = let z : _≡_ {A = ℕ} 0 1 = cc in absurd (omega arith)
-taken-known s b r _ (marked-next h l n p w) e q = absurd (no-message (marks s n p .answer) r (marks-stops s n p) e)
-taken-known s b r _ {i} {j} {k} (message h l m n w f) e q =
-    let u : n ≤ s .end - s .start = within s b m n w in
-    record {
-      sound = record { ordered = omega (arith, h .ordered); inside = h .inside };
+taken-known : (s : Stream) (b : List ℕ) (m : Record) {i j k : ℕ} → nextOf s b .answer ≡ Message m → Known s i j k → Known (nextOf s b .state) i j (k + 1)
+taken-known s b m {i} {j} {k} e q =
+    let t = next-takes s b m e in
+    let u = within s b m (t .used) (t .accepts) in
+    rw (t .step) (record {
+      sound = record { ordered = omega (arith, t .sound .ordered, u); inside = t .sound .inside };
       bytes = q .bytes;
       calls = q .calls;
       messages = ap (λ (n : ℕ). n + 1) (q .messages);
       bytes-fit = q .bytes-fit;
       calls-fit = q .calls-fit;
-      messages-fit = below k (q .messages-fit) (λ z. f (q .messages ∙ z));
+      messages-fit = below k (q .messages-fit) (λ z. t .counts (q .messages ∙ z));
+    })
+
+roomy-known : (s : Stream) (len : ℕ) {i j k : ℕ} → roomOf s len .answer ≡ Ready → Known s i j k → Known (roomOf s len .state) i (j + 1) k
+roomy-known s len {i} {j} {k} e q =
+    let r = room-ready s len e in
+    record {
+      sound = record { ordered = r .ordered; inside = omega (arith, r .free) };
+      bytes = r .bytes ∙ q .bytes;
+      calls = r .calls ∙ ap (λ (n : ℕ). n + 1) (q .calls);
+      messages = r .messages ∙ q .messages;
+      bytes-fit = q .bytes-fit;
+      calls-fit = below j (q .calls-fit) (λ z. r .counts (q .calls ∙ z));
+      messages-fit = q .messages-fit;
     }
 
-roomy-known : (s : Stream) (len : ℕ) (x : Step) {i j k : ℕ} → Room s len x → x .answer ≡ Ready → Known s i j k → Known (x .state) i (j + 1) k
-roomy-known s len _ (31-room _) e q = let z : _≡_ {A = ℕ} 0 1 = cc in absurd (omega arith)
-roomy-known s len _ (30-room _) e q = let z : _≡_ {A = ℕ} 0 1 = cc in absurd (omega arith)
-roomy-known s len _ (34-room _) e q = let z : _≡_ {A = ℕ} 0 1 = cc in absurd (omega arith)
-roomy-known s len _ (33-room _) e q = let z : _≡_ {A = ℕ} 0 1 = cc in absurd (omega arith)
-roomy-known s len _ {i} {j} {k} (front h l f w a) e q = record {
-  sound = record { ordered = omega arith; inside = omega arith };
-  bytes = q .bytes;
-  calls = ap (λ (n : ℕ). n + 1) (q .calls);
-  messages = q .messages;
-  bytes-fit = q .bytes-fit;
-  calls-fit = below j (q .calls-fit) (λ z. f (q .calls ∙ z));
-  messages-fit = q .messages-fit;
-}
-roomy-known s len _ {i} {j} {k} (there h l f w a) e q = record {
-  sound = record { ordered = h .ordered; inside = h .inside };
-  bytes = q .bytes;
-  calls = ap (λ (n : ℕ). n + 1) (q .calls);
-  messages = q .messages;
-  bytes-fit = q .bytes-fit;
-  calls-fit = below j (q .calls-fit) (λ z. f (q .calls ∙ z));
-  messages-fit = q .messages-fit;
-}
+fed-known : (s : Stream) (n : ℕ) {i j k : ℕ} → toldOf s n .answer ≡ Ready → Known s i j k → Known (toldOf s n .state) (i + n) j k
+fed-known s n {i} {j} {k} e q =
+    let t = told-came s n e in
+    rw (t .step) (record {
+      sound = record { ordered = omega (arith, t .sound .ordered); inside = omega (arith, t .sound .inside, t .fits) };
+      bytes = ap (λ (m : ℕ). m + n) (q .bytes);
+      calls = q .calls;
+      messages = q .messages;
+      bytes-fit = omega (arith, q .bytes, q .bytes-fit, t .counts);
+      calls-fit = q .calls-fit;
+      messages-fit = q .messages-fit;
+    })
 
-fed-known : (s : Stream) (n : ℕ) (x : Step) {i j k : ℕ} → Told s n x → x .answer ≡ Ready → Known s i j k → Known (x .state) (i + n) j k
-fed-known s n _ (30-told _) e q = let z : _≡_ {A = ℕ} 0 1 = cc in absurd (omega arith)
-fed-known s n _ (32-told _) e q = let z : _≡_ {A = ℕ} 0 1 = cc in absurd (omega arith)
-fed-known s n _ (33-told _) e q = let z : _≡_ {A = ℕ} 0 1 = cc in absurd (omega arith)
-fed-known s n _ (nothing h y d) e q = let z : _≡_ {A = ℕ} 0 1 = cc in absurd (omega arith)
-fed-known s n _ (marked-told h y _) e q = absurd (no-ready (marks s 10 0 .answer) (marks-stops s 10 0) e)
-fed-known s n _ {i} {j} {k} (came h a c d) e q = record {
-  sound = record { ordered = omega (arith, h .ordered); inside = omega (arith, h .inside) };
-  bytes = ap (λ (m : ℕ). m + n) (q .bytes);
-  calls = q .calls;
-  messages = q .messages;
-  bytes-fit = omega (arith, q .bytes, q .bytes-fit);
-  calls-fit = q .calls-fit;
-  messages-fit = q .messages-fit;
-}
-
-unfed-kept : (s : Stream) (n : ℕ) (x : Step) → Told s n x → (x .answer ≡ Ready → ⊥) → Kept s (x .state)
-unfed-kept s n _ (30-told _) f = kept s
-unfed-kept s n _ (32-told _) f = kept s
-unfed-kept s n _ (33-told _) f = kept s
-unfed-kept s n _ (came h a b d) f = absurd (f refl)
-unfed-kept s n _ (nothing h z e) f = kept s
-unfed-kept s n _ (marked-told h z _) f = marks-kept s 10 0
-
-pub told-kept : (s : Stream) (n : ℕ) → (toldOf s n .answer ≡ Ready → ⊥) → Kept s (toldOf s n .state)
-told-kept s n f = unfed-kept s n (toldOf s n) (told-is s n) f
-
+-- so of every state that the calls reach
 pub known : {s : Stream} {i j k : ℕ} → Reached s i j k → Known s i j k
 known fresh = record {
   sound = record { ordered = omega arith; inside = omega arith };
@@ -123,10 +93,10 @@ known fresh = record {
   calls-fit = omega arith;
   messages-fit = omega arith;
 }
-known (a-message {s = s} p b m e) = taken-known s b m (nextOf s b) (next-is s b) e (known p)
+known (message {s = s} p b m e) = taken-known s b m e (known p)
 known (other {s = s} p b f) = kept-known (next-other s b f) (known p)
-known (room {s = s} p len e) = roomy-known s len (roomOf s len) (room-is s len) e (known p)
+known (room {s = s} p len e) = roomy-known s len e (known p)
 known (no-room {s = s} p len f) = rw (room-refused s len f .0) (known p)
-known (told {s = s} p n e) = fed-known s n (toldOf s n) (told-is s n) e (known p)
+known (told {s = s} p n e) = fed-known s n e (known p)
 known (not-told {s = s} p n f) = kept-known (told-kept s n f) (known p)
 known (failed {s = s} p) = kept-known (failed-stops s .0) (known p)

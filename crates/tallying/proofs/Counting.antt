@@ -29,49 +29,54 @@ below-sum [] k = omega arith
 below-sum (x ∷ c) zero = omega arith
 below-sum (x ∷ c) (suc k) = let e = below-sum c k in omega arith
 
+-- a message raises its counter, and so the count
 raises : (c : List ℕ) (m : Record) (n : ℕ) → Counters c n → m .tag < 256 → Counters (raised c m) (n + 1)
 raises c m n k h = record {
   all = length-set c (m .tag) (getD c (m .tag) 0 + 1) ∙ k .all;
   total = sum-raised c (m .tag) (omega (arith, k .all)) ∙ ap (λ (x : ℕ). x + 1) (k .total);
 }
 
--- one message: the state and the counters behind it
-pub again : (b : List ℕ) (s₀ : Stream) (c₀ : List ℕ) (s : Stream) (c : List ℕ) (r : Step) (m : Record) → Taken b s₀ c₀ s c → Counters c (s .messages)
-    → r ≡ nextOf s b → r .answer ≡ Message m → m .tag < 256 → Taken b s₀ c₀ (r .state) (raised c m) × Counters (raised c m) (r .state .messages)
-again b s₀ c₀ s c r m t k e a h =
-    let f : nextOf s b .answer ≡ Message m = ap (λ (x : Step). x .answer) (sym e) ∙ a in
-    let v : r .state .messages ≡ s .messages + 1 = ap (λ (x : Step). x .state .messages) e ∙ next-message s b m f .messages in (
-      subst (λ (x : Step). Taken b s₀ c₀ (x .state) (raised c m)) (sym e) (more t m f),
-      rw v (raises c m (s .messages) k h),
-    )
-
+-- a message raises the count
 pub rises : (b : List ℕ) (s : Stream) (r : Step) (m : Record) → r ≡ nextOf s b → r .answer ≡ Message m → r .state .messages ≡ s .messages + 1
 rises b s r m e a =
-    let f : nextOf s b .answer ≡ Message m = ap (λ (x : Step). x .answer) (sym e) ∙ a in
-    ap (λ (x : Step). x .state .messages) e ∙ next-message s b m f .messages
+    ap (λ (x : Step). x .state .messages) e
+    ∙ next-message s b m (ap (λ (x : Step). x .answer) (sym e) ∙ a) .messages
+
+-- the state and the counters behind it
+pub again : (b : List ℕ) (s₀ : Stream) (c₀ : List ℕ) (s : Stream) (c : List ℕ) (r : Step) (m : Record) → Taken b s₀ c₀ s c → Counters c (s .messages)
+    → r ≡ nextOf s b → r .answer ≡ Message m → m .tag < 256 → Taken b s₀ c₀ (r .state) (raised c m) × Counters (raised c m) (r .state .messages)
+again b s₀ c₀ s c r m t k e a h = (
+  subst (λ (x : Step). Taken b s₀ c₀ (x .state) (raised c m)) (sym e) (more t m (ap (λ (x : Step). x .answer) (sym e) ∙ a)),
+  rw (rises b s r m e a) (raises c m (s .messages) k h),
+)
 
 -- an answer that is no message leaves the count
 pub counts : (b : List ℕ) (s : Stream) (c : List ℕ) (r : Step) → Counters c (s .messages) → r ≡ nextOf s b → ((m : Record) → r .answer ≡ Message m → ⊥)
     → Counters c (r .state .messages)
 counts b s c r k e f =
-    let h : r .state .messages ≡ s .messages = ap (λ (x : Step). x .state .messages) e ∙ next-other s b (λ m a. f m (ap (λ (x : Step). x .answer) e ∙ a)) .messages in
-    rw h k
+    let o = next-other s b (λ m a. f m (ap (λ (x : Step). x .answer) e ∙ a)) in
+    rw (ap (λ (x : Step). x .state .messages) e ∙ o .messages) k
 
+-- counters of a count that stayed
 pub counters-on : {c : List ℕ} {n m : ℕ} → Counters c n → m ≡ n → Counters c m
 counters-on k e = rw e k
 
--- a drained window: no read, and an answer that wants bytes or stops
+-- ---- a drained window: no read, and an answer that wants bytes or stops
+
 taken-calls : {b : List ℕ} {s : Stream} {c : List ℕ} {t : Stream} {d : List ℕ} → Taken b s c t d → t .«read_calls» ≡ s .«read_calls»
 taken-calls none = refl
 taken-calls {b = b} (more {t = t} p m e) = next-message t b m e .calls ∙ taken-calls p
 
+no-more : {b : List ℕ} {s : Stream} {c : List ℕ} {r : Step} {d : List ℕ} (p : Drained b s c r d) → (m : Record) → nextOf (p .last) b .answer ≡ Message m → ⊥
+no-more p m a = p .stops m (ap (λ (x : Step). x .answer) (p .step) ∙ a)
+
 pub drained-calls : {b : List ℕ} {s : Stream} {c : List ℕ} {r : Step} {d : List ℕ} → Drained b s c r d → r .state .«read_calls» ≡ s .«read_calls»
 drained-calls {b = b} p =
     ap (λ (x : Step). x .state .«read_calls») (p .step)
-    ∙ next-other (p .last) b (λ m a. p .stops m (ap (λ (x : Step). x .answer) (p .step) ∙ a)) .calls
+    ∙ next-other (p .last) b (no-more p) .calls
     ∙ taken-calls (p .taken)
 
 pub drained-stops : {b : List ℕ} {s : Stream} {c : List ℕ} {r : Step} {d : List ℕ} → Drained b s c r d → (r .answer ≡ Wants → ⊥) → stops (r .answer) ≡ true
 drained-stops {b = b} p f =
     ap (λ (x : Step). stops (x .answer)) (p .step)
-    ∙ next-stops (p .last) b (λ m a. p .stops m (ap (λ (x : Step). x .answer) (p .step) ∙ a)) (λ a. f (ap (λ (x : Step). x .answer) (p .step) ∙ a))
+    ∙ next-stops (p .last) b (no-more p) (λ a. f (ap (λ (x : Step). x .answer) (p .step) ∙ a))

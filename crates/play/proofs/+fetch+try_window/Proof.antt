@@ -1,8 +1,8 @@
 -- `play::fetch` and `play::try_window`, which call each other, meet their contracts. What falls: the unread bytes of the slice, counted twice, and one
 -- more in `try_window`, so that each call goes down.
 -- Assumes nothing.
-use Prim.Native.Nat.{ℕ, _<_, _≤_, _+_, _-_}
-use mathlib.Core.Path.{_≡_, refl, sym, ap, _∙_}
+use Prim.Native.Nat.{ℕ, _<_, _+_, _-_}
+use mathlib.Core.Path.{sym, ap, _∙_}
 use native.Mathlib.Omega.{arith}
 use borrow.Author.Needs.{needs}
 use lib.ListN.{length}
@@ -45,68 +45,139 @@ abbrev try-window-below : ℕ → In 2 try-window-kinds.ps
 try-window-below t =
     and 2 try-window-kinds.ps (falls 2 try-window-kinds.ps _<_ μ-try-window t) try-window.Pre
 
-fetch-make-room-of-requires : (t : ℕ) → fetch-lts.Need-make-room-of-requires (make-room-of-reads.Asked, make-room-of-reads.Learnt, fill-reads.Asked, fill-reads.Learnt, told-of-reads.Asked, told-of-reads.Learnt, try-window-below t, try-window.Post) (fetch-at t) fetch.Post
+-- what each may ask of the functions that it calls
+abbrev fetch-claims : ℕ → fetch-lts.Claims
+fetch-claims t = (make-room-of-reads.Asked, make-room-of-reads.Learnt, fill-reads.Asked, fill-reads.Learnt, told-of-reads.Asked, told-of-reads.Learnt, try-window-below t, try-window.Post)
+
+abbrev try-window-claims : ℕ → try-window-lts.Claims
+try-window-claims t = (next-of-reads.Asked, next-of-reads.Learnt, fetch-below t, fetch.Post)
+
+fetch-make-room-of-requires : (t : ℕ) → fetch-lts.Need-make-room-of-requires (fetch-claims t) (fetch-at t) fetch.Post
 fetch-make-room-of-requires t c κs = search needs
 
-fetch-enum-told : (t : ℕ) → fetch-lts.Need-enum-told (make-room-of-reads.Asked, make-room-of-reads.Learnt, fill-reads.Asked, fill-reads.Learnt, told-of-reads.Asked, told-of-reads.Learnt, try-window-below t, try-window.Post) (fetch-at t) fetch.Post
+fetch-enum-told : (t : ℕ) → fetch-lts.Need-enum-told (fetch-claims t) (fetch-at t) fetch.Post
 fetch-enum-told t c = search needs
 
-fetch-same-length : (t : ℕ) → fetch-lts.Need-same-length (make-room-of-reads.Asked, make-room-of-reads.Learnt, fill-reads.Asked, fill-reads.Learnt, told-of-reads.Asked, told-of-reads.Learnt, try-window-below t, try-window.Post) (fetch-at t) fetch.Post
+fetch-same-length : (t : ℕ) → fetch-lts.Need-same-length (fetch-claims t) (fetch-at t) fetch.Post
 fetch-same-length t c = c .before .before .before .before .make-room-of .kept .1 .0
 
-fetch-returns : (t : ℕ) → fetch-lts.Need-returns (make-room-of-reads.Asked, make-room-of-reads.Learnt, fill-reads.Asked, fill-reads.Learnt, told-of-reads.Asked, told-of-reads.Learnt, try-window-below t, try-window.Post) (fetch-at t) fetch.Post
-fetch-returns t c = let e = room-halts (c .before .before .before .before .before .before .before .before .args .src .now) (c .before .before .before .before .before .before .before .before .args .width) (c .before .before .before .before .before .before .before .before .args .s) (c .before .before .before .before .before .before .before .before .args .buf .now) (c .before .before .before .before .before .before .before .before .args .at) (c .before .before .before .before .make-room-of .result) (c .before .before .before .before .make-room-of .last .1 .0) (c .before .before .before .before .make-room-of .ensures .0) (c .before .before .before .before .make-room-of .ensures .1) (not-ready (c .match .keys2)) in (ap (λ (o : Out). o .played) e, ap (λ (o : Out). o .buffer) e)
+fetch-returns : (t : ℕ) → fetch-lts.Need-returns (fetch-claims t) (fetch-at t) fetch.Post
+fetch-returns t c =
+    let a = c .before .before .before .before .before .before .before .before .args in
+    let m = c .before .before .before .before .make-room-of in
+    let e = room-halts (a .src .now) (a .width) (a .s) (a .buf .now) (a .at) (m .result) (m .last .1 .0) (m .ensures .0) (m .ensures .1)
+    (not-ready (c .match .keys2)) in
+    (ap (λ (o : Out). o .played) e, ap (λ (o : Out). o .buffer) e)
 
-fetch-fill-requires : (t : ℕ) → fetch-lts.Need-fill-requires (make-room-of-reads.Asked, make-room-of-reads.Learnt, fill-reads.Asked, fill-reads.Learnt, told-of-reads.Asked, told-of-reads.Learnt, try-window-below t, try-window.Post) (fetch-at t) fetch.Post
-fetch-fill-requires t c κs = let e = c .before .before .before .before .before .before .make-room-of .ensures .0 in let k = c .before .before .before .before .before .before .make-room-of .kept .1 .0 in let h = room-ready (c .before .before .before .before .before .before .before .before .before .before .args .s) (length (c .before .before .before .before .before .before .before .before .before .before .args .buf .now)) (ap (λ (x : Step). x .answer) (sym e) ∙ c .before .enum-told .given .1) in let g = ap (λ (x : Step). x .state .end) e in let p = c .before .before .before .before .before .before .before .before .before .before .pre .1 in omega arith
+fetch-fill-requires : (t : ℕ) → fetch-lts.Need-fill-requires (fetch-claims t) (fetch-at t) fetch.Post
+fetch-fill-requires t c κs =
+    let a = c .before .before .before .before .before .before .before .before .before .before .args in
+    let m = c .before .before .before .before .before .before .make-room-of in
+    let e = m .ensures .0 in
+    let k = m .kept .1 .0 in
+    let h = room-ready (a .s) (length (a .buf .now)) (ap (λ (x : Step). x .answer) (sym e) ∙ c .before .enum-told .given .1) in
+    let g = ap (λ (x : Step). x .state .end) e in
+    let p = c .before .before .before .before .before .before .before .before .before .before .pre .1 in
+    omega arith
 
-fetch-told-of-requires : (t : ℕ) → fetch-lts.Need-told-of-requires (make-room-of-reads.Asked, make-room-of-reads.Learnt, fill-reads.Asked, fill-reads.Learnt, told-of-reads.Asked, told-of-reads.Learnt, try-window-below t, try-window.Post) (fetch-at t) fetch.Post
+fetch-told-of-requires : (t : ℕ) → fetch-lts.Need-told-of-requires (fetch-claims t) (fetch-at t) fetch.Post
 fetch-told-of-requires t c κs = search needs
 
-fetch-add-next : (t : ℕ) → fetch-lts.Need-add-next (make-room-of-reads.Asked, make-room-of-reads.Learnt, fill-reads.Asked, fill-reads.Learnt, told-of-reads.Asked, told-of-reads.Learnt, try-window-below t, try-window.Post) (fetch-at t) fetch.Post
-fetch-add-next t c = let e = c .before .before .before .before .fill .ensures .0 in let p = c .before .before .before .before .before .before .before .before .before .before .before .before .before .before .before .pre .1 in omega arith
+fetch-add-next : (t : ℕ) → fetch-lts.Need-add-next (fetch-claims t) (fetch-at t) fetch.Post
+fetch-add-next t c =
+    let e = c .before .before .before .before .fill .ensures .0 in
+    let p = c .before .before .before .before .before .before .before .before .before .before .before .before .before .before .before .pre .1 in
+    omega arith
 
-fetch-enum-told-2 : (t : ℕ) → fetch-lts.Need-enum-told-2 (make-room-of-reads.Asked, make-room-of-reads.Learnt, fill-reads.Asked, fill-reads.Learnt, told-of-reads.Asked, told-of-reads.Learnt, try-window-below t, try-window.Post) (fetch-at t) fetch.Post
+fetch-enum-told-2 : (t : ℕ) → fetch-lts.Need-enum-told-2 (fetch-claims t) (fetch-at t) fetch.Post
 fetch-enum-told-2 t c = search needs
 
-fetch-same-length-2 : (t : ℕ) → fetch-lts.Need-same-length-2 (make-room-of-reads.Asked, make-room-of-reads.Learnt, fill-reads.Asked, fill-reads.Learnt, told-of-reads.Asked, told-of-reads.Learnt, try-window-below t, try-window.Post) (fetch-at t) fetch.Post
-fetch-same-length-2 t c = c .before .before .before .before .before .fill .kept .0 ∙ c .before .before .before .before .before .before .before .before .before .before .before .before .make-room-of .kept .1 .0
+fetch-same-length-2 : (t : ℕ) → fetch-lts.Need-same-length-2 (fetch-claims t) (fetch-at t) fetch.Post
+fetch-same-length-2 t c =
+    c .before .before .before .before .before .fill .kept .0
+    ∙ c .before .before .before .before .before .before .before .before .before .before .before .before .make-room-of .kept .1 .0
 
-fetch-returns-2 : (t : ℕ) → fetch-lts.Need-returns-2 (make-room-of-reads.Asked, make-room-of-reads.Learnt, fill-reads.Asked, fill-reads.Learnt, told-of-reads.Asked, told-of-reads.Learnt, try-window-below t, try-window.Post) (fetch-at t) fetch.Post
-fetch-returns-2 t c = let e = told-halts (c .before .before .before .before .before .before .before .before .before .before .before .before .before .before .before .before .args .src .now) (c .before .before .before .before .before .before .before .before .before .before .before .before .before .before .before .before .args .width) (c .before .before .before .before .before .before .before .before .before .before .before .before .before .before .before .before .args .s) (c .before .before .before .before .before .before .before .before .before .before .before .before .before .before .before .before .args .buf .now) (c .before .before .before .before .before .before .before .before .before .before .before .before .before .before .before .before .args .at) (c .before .before .before .before .before .before .before .before .before .before .before .before .make-room-of .result) (c .before .before .before .before .before .before .before .before .before .before .before .before .make-room-of .last .1 .0) (c .before .before .before .before .before .before .before .before .before .before .before .before .make-room-of .ensures .0) (c .before .before .before .before .before .before .before .before .before .before .before .before .make-room-of .ensures .1) (c .before .before .before .before .before .before .before .enum-told .given .1) (c .before .before .before .before .before .fill .result) (c .before .before .before .before .before .fill .last .0) (c .before .before .told-of .result) (c .before .before .before .before .before .fill .ensures .0) (c .before .before .before .before .before .fill .ensures .1) (c .before .before .told-of .ensures) (not-ready (c .match2 .keys2)) in (ap (λ (o : Out). o .played) e, ap (λ (o : Out). o .buffer) e)
+fetch-returns-2 : (t : ℕ) → fetch-lts.Need-returns-2 (fetch-claims t) (fetch-at t) fetch.Post
+fetch-returns-2 t c =
+    let a = c .before .before .before .before .before .before .before .before .before .before .before .before .before .before .before .before .args in
+    let m = c .before .before .before .before .before .before .before .before .before .before .before .before .make-room-of in
+    let f = c .before .before .before .before .before .fill in
+    let told = c .before .before .told-of in
+    let e = told-halts (a .src .now) (a .width) (a .s) (a .buf .now) (a .at) (m .result) (m .last .1 .0) (m .ensures .0) (m .ensures .1)
+    (c .before .before .before .before .before .before .before .enum-told .given .1) (f .result) (f .last .0) (told .result) (f .ensures .0)
+    (f .ensures .1) (told .ensures) (not-ready (c .match2 .keys2)) in
+    (ap (λ (o : Out). o .played) e, ap (λ (o : Out). o .buffer) e)
 
-fetch-try-window-requires : (t : ℕ) → fetch-lts.Need-try-window-requires (make-room-of-reads.Asked, make-room-of-reads.Learnt, fill-reads.Asked, fill-reads.Learnt, told-of-reads.Asked, told-of-reads.Learnt, try-window-below t, try-window.Post) (fetch-at t) fetch.Post
-fetch-try-window-requires t c κs = let e = c .before .before .before .before .before .before .before .fill .ensures .0 in let p = c .before .before .before .before .before .before .before .before .before .before .before .before .before .before .before .before .before .before .pre .1 in let q = c .before .before .before .before .before .before .before .before .before .before .before .before .before .before .before .before .before .before .pre .0 in let h = brings (c .before .before .before .before .before .before .before .before .before .before .before .before .before .before .before .before .before .before .args .src .now) (c .before .before .before .before .before .before .before .before .before .before .before .before .before .before .before .before .before .before .args .width) (c .before .before .before .before .before .before .before .before .before .before .before .before .before .before .before .before .before .before .args .s) (c .before .before .before .before .before .before .before .before .before .before .before .before .before .before .before .before .before .before .args .buf .now) (c .before .before .before .before .before .before .before .before .before .before .before .before .before .before .before .before .before .before .args .at) (c .before .before .before .before .before .before .before .before .before .before .before .before .before .before .make-room-of .result) (c .before .before .before .before .before .before .before .before .before .before .before .before .before .before .make-room-of .last .1 .0) (c .before .before .before .before .before .before .before .before .before .before .before .before .before .before .make-room-of .ensures .0) (c .before .before .before .before .before .before .before .before .before .before .before .before .before .before .make-room-of .ensures .1) (c .before .before .before .before .before .before .before .before .before .enum-told .given .1) (c .before .before .before .before .before .before .before .fill .result) (c .before .before .before .before .before .before .before .fill .last .0) (c .before .before .before .before .told-of .result) (c .before .before .before .before .before .before .before .fill .ensures .0) (c .before .before .before .before .before .before .before .fill .ensures .1) (c .before .before .before .before .told-of .ensures) (c .before .enum-told2 .given .1) in (omega arith, omega arith)
+fetch-try-window-requires : (t : ℕ) → fetch-lts.Need-try-window-requires (fetch-claims t) (fetch-at t) fetch.Post
+fetch-try-window-requires t c κs =
+    let a = c .before .before .before .before .before .before .before .before .before .before .before .before .before .before .before .before .before .before .args in
+    let pre = c .before .before .before .before .before .before .before .before .before .before .before .before .before .before .before .before .before .before .pre in
+    let m = c .before .before .before .before .before .before .before .before .before .before .before .before .before .before .make-room-of in
+    let f = c .before .before .before .before .before .before .before .fill in
+    let told = c .before .before .before .before .told-of in
+    let e = f .ensures .0 in
+    let p = pre .1 in
+    let q = pre .0 in
+    let h = brings (a .src .now) (a .width) (a .s) (a .buf .now) (a .at) (m .result) (m .last .1 .0) (m .ensures .0) (m .ensures .1)
+    (c .before .before .before .before .before .before .before .before .before .enum-told .given .1) (f .result) (f .last .0) (told .result)
+    (f .ensures .0) (f .ensures .1) (told .ensures) (c .before .enum-told2 .given .1) in
+    (omega arith, omega arith)
 
-fetch-same-length-3 : (t : ℕ) → fetch-lts.Need-same-length-3 (make-room-of-reads.Asked, make-room-of-reads.Learnt, fill-reads.Asked, fill-reads.Learnt, told-of-reads.Asked, told-of-reads.Learnt, try-window-below t, try-window.Post) (fetch-at t) fetch.Post
-fetch-same-length-3 t c = c .before .before .try-window .kept .1 .0 ∙ c .before .before .before .before .before .before .before .before .before .before .fill .kept .0 ∙ c .before .before .before .before .before .before .before .before .before .before .before .before .before .before .before .before .before .make-room-of .kept .1 .0
+fetch-same-length-3 : (t : ℕ) → fetch-lts.Need-same-length-3 (fetch-claims t) (fetch-at t) fetch.Post
+fetch-same-length-3 t c =
+    c .before .before .try-window .kept .1 .0 ∙ c .before .before .before .before .before .before .before .before .before .before .fill .kept .0
+    ∙ c .before .before .before .before .before .before .before .before .before .before .before .before .before .before .before .before .before .make-room-of .kept .1 .0
 
-fetch-returns-3 : (t : ℕ) → fetch-lts.Need-returns-3 (make-room-of-reads.Asked, make-room-of-reads.Learnt, fill-reads.Asked, fill-reads.Learnt, told-of-reads.Asked, told-of-reads.Learnt, try-window-below t, try-window.Post) (fetch-at t) fetch.Post
-fetch-returns-3 t c = let e = told-goes (c .before .before .before .before .before .before .before .before .before .before .before .before .before .before .before .before .before .before .before .before .before .args .src .now) (c .before .before .before .before .before .before .before .before .before .before .before .before .before .before .before .before .before .before .before .before .before .args .width) (c .before .before .before .before .before .before .before .before .before .before .before .before .before .before .before .before .before .before .before .before .before .args .s) (c .before .before .before .before .before .before .before .before .before .before .before .before .before .before .before .before .before .before .before .before .before .args .buf .now) (c .before .before .before .before .before .before .before .before .before .before .before .before .before .before .before .before .before .before .before .before .before .args .at) (c .before .before .before .before .before .before .before .before .before .before .before .before .before .before .before .before .before .make-room-of .result) (c .before .before .before .before .before .before .before .before .before .before .before .before .before .before .before .before .before .make-room-of .last .1 .0) (c .before .before .before .before .before .before .before .before .before .before .before .before .before .before .before .before .before .make-room-of .ensures .0) (c .before .before .before .before .before .before .before .before .before .before .before .before .before .before .before .before .before .make-room-of .ensures .1) (c .before .before .before .before .before .before .before .before .before .before .before .before .enum-told .given .1) (c .before .before .before .before .before .before .before .before .before .before .fill .result) (c .before .before .before .before .before .before .before .before .before .before .fill .last .0) (c .before .before .before .before .before .before .before .told-of .result) (c .before .before .before .before .before .before .before .before .before .before .fill .ensures .0) (c .before .before .before .before .before .before .before .before .before .before .fill .ensures .1) (c .before .before .before .before .before .before .before .told-of .ensures) (c .before .before .before .before .before .before .before .before .before .before .before .before .before .before .before .before .before .before .before .before .before .pre .1) (c .before .before .before .before .enum-told2 .given .1) in (c .before .before .try-window .ensures .0 ∙ ap (λ (o : Out). o .played) e, c .before .before .try-window .ensures .1 ∙ ap (λ (o : Out). o .buffer) e)
+fetch-returns-3 : (t : ℕ) → fetch-lts.Need-returns-3 (fetch-claims t) (fetch-at t) fetch.Post
+fetch-returns-3 t c =
+    let a = c .before .before .before .before .before .before .before .before .before .before .before .before .before .before .before .before .before .before .before .before .before .args in
+    let m = c .before .before .before .before .before .before .before .before .before .before .before .before .before .before .before .before .before .make-room-of in
+    let f = c .before .before .before .before .before .before .before .before .before .before .fill in
+    let told = c .before .before .before .before .before .before .before .told-of in
+    let tries = c .before .before .try-window in
+    let e = told-goes (a .src .now) (a .width) (a .s) (a .buf .now) (a .at) (m .result) (m .last .1 .0) (m .ensures .0) (m .ensures .1)
+    (c .before .before .before .before .before .before .before .before .before .before .before .before .enum-told .given .1) (f .result) (f .last .0)
+    (told .result) (f .ensures .0) (f .ensures .1) (told .ensures)
+    (c .before .before .before .before .before .before .before .before .before .before .before .before .before .before .before .before .before .before .before .before .before .pre .1)
+    (c .before .before .before .before .enum-told2 .given .1) in
+    (tries .ensures .0 ∙ ap (λ (o : Out). o .played) e, tries .ensures .1 ∙ ap (λ (o : Out). o .buffer) e)
 
-try-window-next-of-requires : (t : ℕ) → try-window-lts.Need-next-of-requires (next-of-reads.Asked, next-of-reads.Learnt, fetch-below t, fetch.Post) (try-window-at t) try-window.Post
+try-window-next-of-requires : (t : ℕ) → try-window-lts.Need-next-of-requires (try-window-claims t) (try-window-at t) try-window.Post
 try-window-next-of-requires t c κs = search needs
 
-try-window-enum-told : (t : ℕ) → try-window-lts.Need-enum-told (next-of-reads.Asked, next-of-reads.Learnt, fetch-below t, fetch.Post) (try-window-at t) try-window.Post
+try-window-enum-told : (t : ℕ) → try-window-lts.Need-enum-told (try-window-claims t) (try-window-at t) try-window.Post
 try-window-enum-told t c = search needs
 
-try-window-same-length : (t : ℕ) → try-window-lts.Need-same-length (next-of-reads.Asked, next-of-reads.Learnt, fetch-below t, fetch.Post) (try-window-at t) try-window.Post
+try-window-same-length : (t : ℕ) → try-window-lts.Need-same-length (try-window-claims t) (try-window-at t) try-window.Post
 try-window-same-length t c = search needs
 
-try-window-returns : (t : ℕ) → try-window-lts.Need-returns (next-of-reads.Asked, next-of-reads.Learnt, fetch-below t, fetch.Post) (try-window-at t) try-window.Post
-try-window-returns t c = let e = try-halts (c .before .before .before .before .before .before .args .src .now) (c .before .before .before .before .before .before .args .width) (c .before .before .before .before .before .before .args .s) (c .before .before .before .before .before .before .args .buf .now) (c .before .before .before .before .before .before .args .at) (c .before .before .next-of .result) (c .before .before .next-of .ensures) (not-wants (c .match .keys2)) in (ap (λ (o : Out). o .played) e, ap (λ (o : Out). o .buffer) e)
+try-window-returns : (t : ℕ) → try-window-lts.Need-returns (try-window-claims t) (try-window-at t) try-window.Post
+try-window-returns t c =
+    let a = c .before .before .before .before .before .before .args in
+    let n = c .before .before .next-of in
+    let e = try-halts (a .src .now) (a .width) (a .s) (a .buf .now) (a .at) (n .result) (n .ensures) (not-wants (c .match .keys2)) in
+    (ap (λ (o : Out). o .played) e, ap (λ (o : Out). o .buffer) e)
 
-try-window-fetch-requires : (t : ℕ) → try-window-lts.Need-fetch-requires (next-of-reads.Asked, next-of-reads.Learnt, fetch-below t, fetch.Post) (try-window-at t) try-window.Post
-try-window-fetch-requires t c κs = let p = c .before .before .before .before .before .before .before .before .pre .1 in let q = c .before .before .before .before .before .before .before .before .pre .0 in (omega arith, p)
+try-window-fetch-requires : (t : ℕ) → try-window-lts.Need-fetch-requires (try-window-claims t) (try-window-at t) try-window.Post
+try-window-fetch-requires t c κs =
+    let pre = c .before .before .before .before .before .before .before .before .pre in
+    let p = pre .1 in
+    let q = pre .0 in
+    (omega arith, p)
 
-try-window-same-length-2 : (t : ℕ) → try-window-lts.Need-same-length-2 (next-of-reads.Asked, next-of-reads.Learnt, fetch-below t, fetch.Post) (try-window-at t) try-window.Post
+try-window-same-length-2 : (t : ℕ) → try-window-lts.Need-same-length-2 (try-window-claims t) (try-window-at t) try-window.Post
 try-window-same-length-2 t c = c .before .before .fetch .kept .1 .0
 
-try-window-returns-2 : (t : ℕ) → try-window-lts.Need-returns-2 (next-of-reads.Asked, next-of-reads.Learnt, fetch-below t, fetch.Post) (try-window-at t) try-window.Post
-try-window-returns-2 t c = let e = try-goes (c .before .before .before .before .before .before .before .before .before .before .before .args .src .now) (c .before .before .before .before .before .before .before .before .before .before .before .args .width) (c .before .before .before .before .before .before .before .before .before .before .before .args .s) (c .before .before .before .before .before .before .before .before .before .before .before .args .buf .now) (c .before .before .before .before .before .before .before .before .before .before .before .args .at) (c .before .before .before .before .before .before .before .next-of .result) (c .before .before .before .before .before .before .before .next-of .ensures) (c .before .before .before .before .enum-told .given .1) in (c .before .before .fetch .ensures .0 ∙ ap (λ (o : Out). o .played) e, c .before .before .fetch .ensures .1 ∙ ap (λ (o : Out). o .buffer) e)
+try-window-returns-2 : (t : ℕ) → try-window-lts.Need-returns-2 (try-window-claims t) (try-window-at t) try-window.Post
+try-window-returns-2 t c =
+    let a = c .before .before .before .before .before .before .before .before .before .before .before .args in
+    let n = c .before .before .before .before .before .before .before .next-of in
+    let e = try-goes (a .src .now) (a .width) (a .s) (a .buf .now) (a .at) (n .result) (n .ensures)
+    (c .before .before .before .before .enum-told .given .1) in
+    (c .before .before .fetch .ensures .0 ∙ ap (λ (o : Out). o .played) e, c .before .before .fetch .ensures .1 ∙ ap (λ (o : Out). o .buffer) e)
 
 pub +fetch+try-window-spec : {M : Type 1} → statement M
-+fetch+try-window-spec = close μ-fetch μ-try-window (λ t. fetch-lts.spec (make-room-of-reads.Asked, make-room-of-reads.Learnt, fill-reads.Asked, fill-reads.Learnt, told-of-reads.Asked, told-of-reads.Learnt, try-window-below t, try-window.Post)
++fetch+try-window-spec = close μ-fetch μ-try-window (λ t. fetch-lts.spec (fetch-claims t)
     (fetch-at t)
     fetch.Post
     (fetch-make-room-of-requires t)
@@ -123,7 +194,7 @@ pub +fetch+try-window-spec : {M : Type 1} → statement M
     (fetch-same-length-3 t)
     (fetch-returns-3 t))
     λ t. try-window-lts.spec
-    (next-of-reads.Asked, next-of-reads.Learnt, fetch-below t, fetch.Post)
+    (try-window-claims t)
     (try-window-at t)
     try-window.Post
     (try-window-next-of-requires t)

@@ -1,8 +1,8 @@
 -- `play::copy_in` meets its contract. The invariant: the first i bytes are those of src from `at` on, and the rest is as it was.
 -- Assumes nothing.
 use Prim.Native.Nat.{ℕ, _+_, _-_, _≤_, _<_}
-use mathlib.Core.Path.{_≡_, refl, sym, ap, _∙_}
-use mathlib.Core.List.{List, _++_}
+use mathlib.Core.Path.{_≡_, refl, ap, _∙_}
+use mathlib.Core.List.{List}
 use native.Mathlib.Omega.{arith}
 use lib.ListN.{length, getD, drop, set, length-drop, length-set}
 use lib.Seq.{getD-drop}
@@ -41,7 +41,9 @@ loop-less : tie.Need-loop-less Inv-loop μ-loop
 loop-less c = omega arith
 
 loop-again : tie.Need-loop-again Inv-loop μ-loop
-loop-again c = (omega arith, simp length-set (omega arith), turn (c .before .before .before .args .free .now) (c .before .before .loop .free) (c .before .before .before .args .src .now) (c .before .before .before .args .at) (c .before .before .loop .i) (omega arith) (omega arith) (c .before .before .loop .inv .2))
+loop-again c =
+    let a = c .before .before .before .args in
+    (omega arith, simp length-set (omega arith), turn (a .free .now) (c .before .before .loop .free) (a .src .now) (a .at) (c .before .before .loop .i) (omega arith) (omega arith) (c .before .before .loop .inv .2))
 
 same-length : tie.Need-same-length Inv-loop μ-loop
 same-length c = c .before .loop .inv .1

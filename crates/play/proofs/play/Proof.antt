@@ -18,28 +18,46 @@ stopped-requires-2 c κs = search needs
 
 returns-2 : tie.Need-returns-2
 unfolding playOf
-returns-2 c = (simp (eq-eqb _ _ (c .before .before .if1 .left), lt-leb _ _ (c .before .if2 .taken)) (c .stopped2 .ensures), simp (eq-eqb _ _ (c .before .before .if1 .left), lt-leb _ _ (c .before .if2 .taken)))
+returns-2 c =
+    let t1 = eq-eqb _ _ (c .before .before .if1 .left) in
+    let t2 = lt-leb _ _ (c .before .if2 .taken) in
+    (simp (t1, t2) (c .stopped2 .ensures), simp (t1, t2))
 
 stopped-requires-3 : tie.Need-stopped-requires-3
 stopped-requires-3 c κs = search needs
 
 returns-3 : tie.Need-returns-3
 unfolding playOf
-returns-3 c = (simp (eq-eqb _ _ (c .before .before .before .if1 .left), le-leb _ _ (c .before .before .if2 .left), lt-leb _ _ (c .before .if3 .taken)) (c .stopped3 .ensures), simp (eq-eqb _ _ (c .before .before .before .if1 .left), le-leb _ _ (c .before .before .if2 .left), lt-leb _ _ (c .before .if3 .taken)))
+returns-3 c =
+    let t1 = eq-eqb _ _ (c .before .before .before .if1 .left) in
+    let t2 = le-leb _ _ (c .before .before .if2 .left) in
+    let t3 = lt-leb _ _ (c .before .if3 .taken) in
+    (simp (t1, t2, t3) (c .stopped3 .ensures), simp (t1, t2, t3))
 
 stopped-requires-4 : tie.Need-stopped-requires-4
 stopped-requires-4 c κs = search needs
 
 returns-4 : tie.Need-returns-4
 unfolding playOf
-returns-4 c = (simp (eq-eqb _ _ (c .before .before .before .before .if1 .left), le-leb _ _ (c .before .before .before .if2 .left), le-leb _ _ (c .before .before .if3 .left), lt-leb _ _ (c .before .if4 .taken)) (c .stopped4 .ensures), simp (eq-eqb _ _ (c .before .before .before .before .if1 .left), le-leb _ _ (c .before .before .before .if2 .left), le-leb _ _ (c .before .before .if3 .left), lt-leb _ _ (c .before .if4 .taken)))
+returns-4 c =
+    let t1 = eq-eqb _ _ (c .before .before .before .before .if1 .left) in
+    let t2 = le-leb _ _ (c .before .before .before .if2 .left) in
+    let t3 = le-leb _ _ (c .before .before .if3 .left) in
+    let t4 = lt-leb _ _ (c .before .if4 .taken) in
+    (simp (t1, t2, t3, t4) (c .stopped4 .ensures), simp (t1, t2, t3, t4))
 
 stopped-requires-5 : tie.Need-stopped-requires-5
 stopped-requires-5 c κs = search needs
 
 returns-5 : tie.Need-returns-5
 unfolding playOf
-returns-5 c = (simp (eq-eqb _ _ (c .before .before .before .before .before .if1 .left), le-leb _ _ (c .before .before .before .before .if2 .left), le-leb _ _ (c .before .before .before .if3 .left), le-leb _ _ (c .before .before .if4 .left), eq-eqb _ _ (c .before .if5 .taken)) (c .stopped5 .ensures), simp (eq-eqb _ _ (c .before .before .before .before .before .if1 .left), le-leb _ _ (c .before .before .before .before .if2 .left), le-leb _ _ (c .before .before .before .if3 .left), le-leb _ _ (c .before .before .if4 .left), eq-eqb _ _ (c .before .if5 .taken)))
+returns-5 c =
+    let t1 = eq-eqb _ _ (c .before .before .before .before .before .if1 .left) in
+    let t2 = le-leb _ _ (c .before .before .before .before .if2 .left) in
+    let t3 = le-leb _ _ (c .before .before .before .if3 .left) in
+    let t4 = le-leb _ _ (c .before .before .if4 .left) in
+    let t5 = eq-eqb _ _ (c .before .if5 .taken) in
+    (simp (t1, t2, t3, t4, t5) (c .stopped5 .ensures), simp (t1, t2, t3, t4, t5))
 
 try-window-requires : tie.Need-try-window-requires
 try-window-requires c κs = search needs
@@ -49,7 +67,13 @@ same-length c = search needs
 
 returns-6 : tie.Need-returns-6
 unfolding playOf
-returns-6 c = (simp (eq-eqb _ _ (c .before .before .before .before .before .before .before .before .if1 .left), le-leb _ _ (c .before .before .before .before .before .before .before .if2 .left), le-leb _ _ (c .before .before .before .before .before .before .if3 .left), le-leb _ _ (c .before .before .before .before .before .if4 .left), ne-eqb _ _ (c .before .before .before .before .if5 .left)) (c .before .before .try-window .ensures .0), simp (eq-eqb _ _ (c .before .before .before .before .before .before .before .before .if1 .left), le-leb _ _ (c .before .before .before .before .before .before .before .if2 .left), le-leb _ _ (c .before .before .before .before .before .before .if3 .left), le-leb _ _ (c .before .before .before .before .before .if4 .left), ne-eqb _ _ (c .before .before .before .before .if5 .left)) (c .before .before .try-window .ensures .1))
+returns-6 c =
+    let t1 = eq-eqb _ _ (c .before .before .before .before .before .before .before .before .if1 .left) in
+    let t2 = le-leb _ _ (c .before .before .before .before .before .before .before .if2 .left) in
+    let t3 = le-leb _ _ (c .before .before .before .before .before .before .if3 .left) in
+    let t4 = le-leb _ _ (c .before .before .before .before .before .if4 .left) in
+    let t5 = ne-eqb _ _ (c .before .before .before .before .if5 .left) in
+    (simp (t1, t2, t3, t4, t5) (c .before .before .try-window .ensures .0), simp (t1, t2, t3, t4, t5) (c .before .before .try-window .ensures .1))
 
 pub play-spec : {M : Type 1} → statement M
 play-spec =

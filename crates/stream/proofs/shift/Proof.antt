@@ -39,7 +39,8 @@ loop-less c = omega arith
 
 loop-again : tie.Need-loop-again Inv-loop μ-loop
 loop-again c =
-    (omega arith, omega arith, omega arith, simp length-set (omega arith), turn (c .before .before .before .args .buf .now) (c .before .before .loop .buf) (c .before .before .before .args .start) (c .before .before .loop .i) (omega arith) (c .before .before .loop .inv .4))
+    let a = c .before .before .before .args in
+    (omega arith, omega arith, omega arith, simp length-set (omega arith), turn (a .buf .now) (c .before .before .loop .buf) (a .start) (c .before .before .loop .i) (omega arith) (c .before .before .loop .inv .4))
 
 same-length : tie.Need-same-length Inv-loop μ-loop
 same-length c = c .before .loop .inv .3

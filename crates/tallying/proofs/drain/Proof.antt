@@ -1,6 +1,6 @@
 -- `tallying::drain` meets its contract. What falls each turn: the messages that the count still allows.
 -- Assumes nothing.
-use Prim.Native.Nat.{_-_}
+use Prim.Native.Nat.{_+_, _-_}
 use mathlib.Core.Path.{_≡_, sym, _∙_}
 use native.Mathlib.Omega.{arith}
 use Rattle.stream_laws.proofs.Calls.{not-message}
@@ -16,6 +16,12 @@ Inv-loop b count₀ s₀ count s = Taken b s₀ count₀ s count × Counters cou
 abbrev μ-loop : tie.MeasureT-loop
 μ-loop b count₀ s₀ count s = 18446744073709551616 - s .messages
 
+-- the message that was answered raises the count
+one-more : (c : tie.After-answer Inv-loop μ-loop) → c .before .before .before .next-of .result .state .messages ≡ c .before .before .before .before .loop .s .messages + 1
+one-more c =
+    let n = c .before .before .before .next-of in
+    rises (c .before .before .before .before .before .before .before .args .b .now) _ (n .result) (c .answer .given .0 .0) (n .ensures) (c .answer .given .1)
+
 loop-holds : tie.Need-loop-holds Inv-loop μ-loop
 loop-holds c = (none, c .before .before .pre)
 
@@ -29,7 +35,17 @@ same-length : tie.Need-same-length Inv-loop μ-loop
 same-length c = c .before .before .before .loop .inv .1 .all ∙ sym (c .before .before .before .before .before .before .pre .all)
 
 returns : tie.Need-returns Inv-loop μ-loop
-returns c = record { last = c .before .before .before .loop .s; taken = c .before .before .before .loop .inv .0; step = c .before .before .next-of .ensures; stops = not-message (c .match .keys2); counted = counts (c .before .before .before .before .before .before .args .b .now) (c .before .before .before .loop .s) (c .before .before .before .loop .count) (c .before .before .next-of .result) (c .before .before .before .loop .inv .1) (c .before .before .next-of .ensures) (not-message (c .match .keys2)) }
+returns c =
+    let l = c .before .before .before .loop in
+    let n = c .before .before .next-of in
+    let f = not-message (c .match .keys2) in
+    record {
+      last = l .s;
+      taken = l .inv .0;
+      step = n .ensures;
+      stops = f;
+      counted = counts (c .before .before .before .before .before .before .args .b .now) (l .s) (l .count) (n .result) (l .inv .1) (n .ensures) f;
+    }
 
 cast-k : tie.Need-cast-k Inv-loop μ-loop
 cast-k c = search needs
@@ -41,7 +57,13 @@ slice-read-count : tie.Need-slice-read-count Inv-loop μ-loop
 slice-read-count c = omega (arith, c .before .before .before .before .before .before .before .loop .inv .1 .all)
 
 add-count : tie.Need-add-count Inv-loop μ-loop
-add-count c = omega (arith, rises (c .before .before .before .before .before .before .before .before .before .before .args .b .now) (c .before .before .before .before .before .before .before .loop .s) (c .before .before .before .before .before .before .next-of .result) (c .before .before .before .answer .given .0 .0) (c .before .before .before .before .before .before .next-of .ensures) (c .before .before .before .answer .given .1), below-sum (c .before .before .before .before .before .before .before .loop .count) (c .before .before .before .answer .given .0 .0 .tag), c .before .before .before .before .before .before .before .loop .inv .1 .total)
+add-count c =
+    omega (
+      arith,
+      one-more (c .before .before .before),
+      below-sum (c .before .before .before .before .before .before .before .loop .count) (c .before .before .before .answer .given .0 .0 .tag),
+      c .before .before .before .before .before .before .before .loop .inv .1 .total,
+    )
 
 mul-count-2 : tie.Need-mul-count-2 Inv-loop μ-loop
 mul-count-2 c = omega (arith, c .before .before .before .before .before .before .before .loop .inv .1 .all)
@@ -50,10 +72,16 @@ slice-write-count : tie.Need-slice-write-count Inv-loop μ-loop
 slice-write-count c = omega (arith, c .before .before .before .before .before .before .before .loop .inv .1 .all)
 
 loop-less : tie.Need-loop-less Inv-loop μ-loop
-loop-less c = omega (arith, rises (c .before .before .before .before .before .before .before .before .before .before .args .b .now) (c .before .before .before .before .before .before .before .loop .s) (c .before .before .before .before .before .before .next-of .result) (c .before .before .before .answer .given .0 .0) (c .before .before .before .before .before .before .next-of .ensures) (c .before .before .before .answer .given .1))
+loop-less c = omega (arith, one-more (c .before .before .before))
 
 loop-again : tie.Need-loop-again Inv-loop μ-loop
-loop-again c = again (c .before .before .before .before .before .before .before .before .before .before .args .b .now) (c .before .before .before .before .before .before .before .before .before .before .args .s0) (c .before .before .before .before .before .before .before .before .before .before .args .count .now) (c .before .before .before .before .before .before .before .loop .s) (c .before .before .before .before .before .before .before .loop .count) (c .before .before .before .before .before .before .next-of .result) (c .before .before .before .answer .given .0 .0) (c .before .before .before .before .before .before .before .loop .inv .0) (c .before .before .before .before .before .before .before .loop .inv .1) (c .before .before .before .before .before .before .next-of .ensures) (c .before .before .before .answer .given .1) (search needs)
+loop-again c =
+    let a = c .before .before .before .before .before .before .before .before .before .before .args in
+    let l = c .before .before .before .before .before .before .before .loop in
+    let n = c .before .before .before .before .before .before .next-of in
+    let an = c .before .before .before .answer in
+    again (a .b .now) (a .s0) (a .count .now) (l .s) (l .count) (n .result) (an .given .0 .0) (l .inv .0) (l .inv .1) (n .ensures) (an .given .1)
+    (search needs)
 
 pub drain-spec : {M : Type 1} → statement M
 drain-spec =

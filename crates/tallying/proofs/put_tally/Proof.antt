@@ -15,7 +15,9 @@ same-length : tie.Need-same-length
 same-length c = search needs
 
 returns : tie.Need-returns
-returns c = wrote-as (sym (printed-all _ _ _ (c .before .before .before .before .before .before .pre .0 .all))) (c .before .before .tally .ensures .fits (omega (arith, c .before .before .before .before .before .before .pre .1)))
+returns c =
+    let pre = c .before .before .before .before .before .before .pre in
+    wrote-as (sym (printed-all _ _ _ (pre .0 .all))) (c .before .before .tally .ensures .fits (omega (arith, pre .1)))
 
 pub put-tally-spec : {M : Type 1} → statement M
 put-tally-spec = tie.close (tie.spec tally-requires same-length returns)

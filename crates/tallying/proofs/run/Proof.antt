@@ -48,7 +48,9 @@ enum-told-2 : tie.Need-enum-told-2 Inv-loop μ-loop
 enum-told-2 c = search needs
 
 same-length-2 : tie.Need-same-length-2 Inv-loop μ-loop
-same-length-2 c = c .before .before .before .before .before .before .before .before .before .before .drain .ensures .counted .all ∙ sym (c .before .before .before .before .before .before .before .before .before .before .before .before .before .before .before .before .pre .all)
+same-length-2 c =
+    c .before .before .before .before .before .before .before .before .before .before .drain .ensures .counted .all
+    ∙ sym (c .before .before .before .before .before .before .before .before .before .before .before .before .before .before .before .before .pre .all)
 
 returns-2 : tie.Need-returns-2 Inv-loop μ-loop
 returns-2 c = (
@@ -57,7 +59,9 @@ returns-2 c = (
 )
 
 loop-less : tie.Need-loop-less Inv-loop μ-loop
-loop-less c = omega (arith, drained-calls (c .before .before .before .before .before .before .before .before .before .before .before .drain .ensures), c .before .before .before .before .read-some .ensures .calls (c .enum-told2 .given .1))
+loop-less c =
+    let d = c .before .before .before .before .before .before .before .before .before .before .before .drain in
+    omega (arith, drained-calls (d .ensures), c .before .before .before .before .read-some .ensures .calls (c .enum-told2 .given .1))
 
 loop-again : tie.Need-loop-again Inv-loop μ-loop
 loop-again c = (
