@@ -8,6 +8,7 @@ use native.Mathlib.Omega.{arith}
 use native.Mathlib.Nat.{add-zero}
 use lib.ListN.{length, drop, getD, replicate, length-drop, drop-of-length-le}
 use lib.Seq.{sets, drop-cons}
+use Rattle.format.proofs.Tests.{le-or-lt}
 use Rattle.reader.specs.declared.Window.{Window}
 use Rattle.walk.specs.declared.Walk.{Walk}
 use Rattle.walk.specs.Walk.{sizeBy, frameSize, countOf, judgeOf, put, doneOf}
@@ -20,7 +21,7 @@ use Rattle.lines.specs.declared.Why.the-variants.{Used, Full}
 use Rattle.lines.specs.Lines.{lineOf, linesOf}
 use Rattle.lines.specs.Blocks.{longest, startOf, cutOf, Called}
 use Rattle.lines.specs.Whole.{Cutting, entryAt, Ends, Frames, none, more, Goes}
-use Rattle.lines.proofs.Turns.{less?, Going, going-start, going-used, going-full, going-frame, going-cut}
+use Rattle.lines.proofs.Turns.{Going, going-start, going-used, going-full, going-frame, going-cut}
 use Rattle.lines.proofs.Told.{lines-last, accepts-last, many-last, frames-far}
 use Rattle.lines.proofs.Starts.{start-frame, start-cut, start-short}
 
@@ -39,7 +40,7 @@ module _ (win : List ℕ → Window) where
 
   module _ (b : List ℕ) (from : ℕ) (out₀ : List ℕ) (at : ℕ) (w₀ : Walk) (out : List ℕ) (i o offset frames accepted : ℕ)
       (A : Along b from out₀ at w₀ out i o offset frames accepted) where
-    pub along-used : length b ≤ i → Called win w₀ b from out₀ at out (record { state = startOf offset frames accepted; from = i; at = o; why = Used })
+    along-used : length b ≤ i → Called win w₀ b from out₀ at out (record { state = startOf offset frames accepted; from = i; at = o; why = Used })
     along-used h = going-used win b from out₀ at w₀ out (startOf offset frames accepted) i o (A .going) h
 
     pub along-full : i < length b → length out - o < longest
@@ -73,34 +74,37 @@ module _ (win : List ℕ → Window) where
             counted = omega (arith, A .counted, count-one v);
           }
 
+    -- no byte of the block is left
+    along-none : length b ≤ i
+        → Called win w₀ b from out₀ at out (record { state = cutOf (startOf offset frames accepted) (drop i b); from = i + (length b - i); at = o; why = Used })
+    unfolding put
+    along-none l =
+        let e : drop i b ≡ [] = drop-of-length-le b l in
+        let n : i + (length b - i) ≡ i = omega arith in
+        rw (e, n) (along-used l)
+
     -- no further frame ends in the block: none begins there, too few bytes for a length, or fewer than it says
     pub along-end : i ≤ length b → Cutting b (length b) i → (i < length b → longest ≤ length out - o)
         → Called win w₀ b from out₀ at out (record { state = cutOf (startOf offset frames accepted) (drop i b); from = i + (length b - i); at = o; why = Used })
     unfolding put
     along-end w c space =
         ⊎-elim
-        (λ l.
-        let e : drop i b ≡ [] = drop-of-length-le b l in
-        let n : i + (length b - i) ≡ i = omega arith in
-        rw (e, n) (along-used l))
+        along-none
         (λ d.
         ⊎-elim
+        along-none
         (λ lt.
         along-cut lt (space lt)
         (⊎-elim
         (λ few. omega (arith, few, length-drop i b))
         (λ short.
         ⊎-elim
-        (λ few. omega (arith, few, length-drop i b))
         (λ two.
         start-short win offset frames accepted (drop i b) (fits lt) (A .two) (A .counted) (omega (arith, two, length-drop i b)) (omega (arith, short, length-drop i b)))
-        (less? (length b - i) 2))
+        (λ few. omega (arith, few, length-drop i b))
+        (le-or-lt 2 (length b - i)))
         d))
-        (λ l.
-        let e : drop i b ≡ [] = drop-of-length-le b l in
-        let n : i + (length b - i) ≡ i = omega arith in
-        rw (e, n) (along-used l))
-        (less? i (length b)))
+        (le-or-lt (length b) i))
         c
 
   pub along-start : (b : List ℕ) (from : ℕ) (out : List ℕ) (at offset frames accepted : ℕ) → from ≤ length b → at ≤ length out

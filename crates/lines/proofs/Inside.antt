@@ -20,7 +20,7 @@ use Rattle.lines.specs.declared.Why.the-variants.{Used}
 use Rattle.lines.specs.declared.Blocked.{Blocked}
 use Rattle.lines.specs.Lines.{lineOf, linesOf}
 use Rattle.lines.specs.Blocks.{longest, startOf, Called}
-use Rattle.lines.specs.Whole.{Cutting, entryAt, Ends, Frames, none, more, Goes}
+use Rattle.lines.specs.Whole.{Cutting, entryAt, Frames, none, more, Goes}
 use Rattle.lines.proofs.Turns.{Going, going-start, going-frame, going-cut, going-called}
 use Rattle.lines.proofs.Starts.{ready-all, ready-moves}
 
@@ -114,7 +114,7 @@ module _ (win : List ℕ → Window) (held : List ℕ) (size offset long to : �
           (λ d. ⊎-elim (λ few. omega (arith, few, i, two)) (λ short. let x : size - 0 < frameSize held = rw i at short in omega (arith, x, z)) d)
           (c e)
 
--- what the held frame's line leaves
+-- what the held frame leaves: its line, and one frame more
 module _ (win : List ℕ → Window) (held : List ℕ) (size offset frames accepted : ℕ) (out : List ℕ) (to : ℕ) (after : List ℕ) (g : Gone)
     (G : Goes win held size 0 offset frames accepted out to after g) (two : 2 ≤ length held) (z : size ≡ frameSize held) (room : to + longest ≤ length out) where
   told-alone : Alone win held size offset (length out) to two z (G .entries) (g .at)
@@ -124,18 +124,19 @@ module _ (win : List ℕ → Window) (held : List ℕ) (size offset frames accep
   here : entryAt win held 0 offset 0 ≡ record { at = offset; size = size; what = judgeOf win held size }
   here = rw (z, add-zero offset)
 
-  pub held-line : Wrote (lineOf (record { at = offset; size = size; what = judgeOf win held size })) out to after (g .to)
-  unfolding linesOf
-  held-line = rw (told-alone .all, here, append-nil (lineOf (record { at = offset; size = size; what = judgeOf win held size }))) at (G .text)
+  pub record One : Type 0 where
+    pub line : Wrote (lineOf (record { at = offset; size = size; what = judgeOf win held size })) out to after (g .to)
+    pub past : g .offset ≡ offset + size
+    pub told : g .frames ≡ frames + 1
+    pub good : g .accepted ≡ accepted + countOf (judgeOf win held size)
 
-  pub held-past : g .offset ≡ offset + size
-  held-past = omega (arith, G .past, told-alone .whole)
-
-  pub held-told : g .frames ≡ frames + 1
-  held-told = G .told ∙ ap (λ (l : List Entry). frames + length l) (told-alone .all)
-
-  pub held-good : g .accepted ≡ accepted + countOf (judgeOf win held size)
-  unfolding accepts
-  held-good =
+  pub held-one : One
+  unfolding linesOf accepts
+  held-one =
       let a : accepts (G .entries) ≡ countOf (judgeOf win held size) + 0 = ap accepts (told-alone .all) ∙ rw z in
-      omega (arith, G .good, a)
+      record {
+        line = rw (told-alone .all, here, append-nil (lineOf (record { at = offset; size = size; what = judgeOf win held size }))) at (G .text);
+        past = omega (arith, G .past, told-alone .whole);
+        told = G .told ∙ ap (λ (l : List Entry). frames + length l) (told-alone .all);
+        good = omega (arith, G .good, a);
+      }

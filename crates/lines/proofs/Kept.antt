@@ -4,7 +4,6 @@ use Prim.Native.Nat.{ℕ, zero, suc, _≤_, _<_, _-_, _+_}
 use mathlib.Core.Path.{_≡_, refl, sym, _∙_}
 use mathlib.Core.Bool.{Bool, true, false, false≢true}
 use mathlib.Core.List.{List}
-use mathlib.Core.Logic.{_⊎_, ⊎-elim}
 use native.Mathlib.Omega.{arith}
 use lib.ListN.{length, drop, length-drop}
 use Rattle.reader.specs.declared.Window.{Window}
@@ -17,9 +16,9 @@ use Rattle.walk.specs.Frames.{Entry}
 use Rattle.lines.specs.declared.Why.{Why}
 use Rattle.lines.specs.declared.Why.the-variants.{Used, Full, Stopped}
 use Rattle.lines.specs.Lines.{lineOf}
-use Rattle.lines.specs.Blocks.{longest, refusesOf, stopsOf, Block, Sane, stopped, telling, followed, blockOf}
+use Rattle.lines.specs.Blocks.{longest, refusesOf, stopsOf, Block, Sane, stopped, telling, blockOf}
 use Rattle.lines.proofs.Moves.{Moved, step-moved}
-use Rattle.lines.proofs.Turns.{less?, block-used, block-full, block-step, block-refused, uses}
+use Rattle.lines.proofs.Turns.{turn, after, block-used, block-full, block-step, block-refused, uses}
 
 -- from w at place i of a block of n bytes
 pub record Kept (w : Walk) (n i : ℕ) (r : Block) : Type 0 where
@@ -39,14 +38,9 @@ kept-telling : (w : Walk) (n i : ℕ) (en : Entry) (r : Block) → Kept w n i r 
 kept-telling w n i en r K = record { ahead = K .ahead; within = K .within; bytes = K .bytes; sane = K .sane }
 
 module _ (win : List ℕ → Window) where
-  -- a turn that takes a step, by its answer
-  abbrev after : Answer → ℕ → ℕ → Stepped → Walk → List ℕ → ℕ → Block
-  after a k room st w b i =
-      followed a (λ e. telling e (blockOf win k (room - length (lineOf e)) (st .state) b (i + st .used))) (blockOf win k room (st .state) b (i + st .used)) (stopped w i Stopped)
-
   kept-after : (k room : ℕ) (w : Walk) (b : List ℕ) (i : ℕ) (st : Stepped) → i ≤ length b → Moved w (drop i b) st
       → ((room : ℕ) → Kept (st .state) (length b) (i + st .used) (blockOf win k room (st .state) b (i + st .used)))
-      → (a : Answer) → Kept w (length b) i (after a k room st w b i)
+      → (a : Answer) → Kept w (length b) i (after win a k room st w b i)
   kept-after k room w b i st h m IH (Frame at size what) =
       kept-telling w (length b) i (record { at = at; size = size; what = what }) _
       (kept-step w (st .state) (length b) i (st .used) _ (m .bytes) (m .sane) (IH (room - length (lineOf (record { at = at; size = size; what = what })))))
@@ -57,21 +51,18 @@ module _ (win : List ℕ → Window) where
   unfolding blockOf
   kept zero room w b i h = kept-stopped w (length b) i Used h
   kept (suc k) room w b i h =
-      ⊎-elim
-      (λ lt.
-      ⊎-elim (λ r. rw (block-full win k room w b i lt r) (kept-stopped w (length b) i Full h))
-      (λ r.
+      turn b i room
+      (λ le. rw (block-used win (suc k) room w b i le) (kept-stopped w (length b) i Used h))
+      (λ lt r. rw (block-full win k room w b i lt r) (kept-stopped w (length b) i Full h))
+      (λ lt r.
       let st = stepOf win w (drop i b) in
       let m = step-moved win w (drop i b) in
       rw (block-step win k room w b i st lt r refl)
       (kept-after k room w b i st h m (λ rm. kept k rm (st .state) b (i + st .used) (omega (arith, m .within, length-drop i b))) (st .answer)))
-      (less? room longest))
-      (λ le. rw (block-used win (suc k) room w b i le) (kept-stopped w (length b) i Used h))
-      (less? i (length b))
 
   -- a call into a buffer with room for a line goes on, unless a step refuses
   went-after : (k room : ℕ) (w : Walk) (b : List ℕ) (i : ℕ) (st : Stepped) → i + st .used ≤ length b → (a : Answer) → refusesOf a ≡ false
-      → i + st .used ≤ after a k room st w b i .from
+      → i + st .used ≤ after win a k room st w b i .from
   went-after k room w b i st h (Frame at size what) x =
       kept k (room - length (lineOf (record { at = at; size = size; what = what }))) (st .state) b (i + st .used) h .ahead
   went-after k room w b i st h WantsMore x = kept k room (st .state) b (i + st .used) h .ahead

@@ -29,6 +29,8 @@ use Rattle.lines.specs.Lines.{acceptedOf, refusedOf, lineOf, linesOf}
 use Rattle.lines.specs.Blocks.{longest}
 use Rattle.lines.specs.Whole.{isFull, haltedOf, Cutting, entryAt, Ends, Frames, none, more, Halting, cut, full, refused, Halts, Goes}
 
+-- ---- the lines, the accepted and the number of frames that are told one behind the other
+
 pub lines-append : (es fs : List Entry) → linesOf (es ++ fs) ≡ linesOf es ++ linesOf fs
 unfolding linesOf
 lines-append [] fs = refl
@@ -67,26 +69,17 @@ module _ (win : List ℕ → Window) (s : List ℕ) (have from offset : ℕ) (ou
       record { entries = []; frames = none; many = refl; all = refl; text = wrote-none out₀ to g; ahead = omega arith; within = h }
 
   module _ (out : List ℕ) (i o count : ℕ) (T : Telling out i o count) where
+    -- no further accepted frame, for whatever reason
+    halts : (after : List ℕ) (a : ℕ) (why : Halt) → Halting win s have from offset out₀ to (T .entries) i after a why
+        → Halts win s have from offset out₀ to after (record { at = i; to = a; count = count; why = why })
+    halts after a why h = record { entries = T .entries; frames = T .frames; many = T .many; all = T .all; why = h }
+
     pub telling-cut : Cutting s have i → (i < have → longest ≤ length out - o)
         → Halts win s have from offset out₀ to out (record { at = i; to = o; count = count; why = Cut })
-    telling-cut h space =
-        record {
-          entries = T .entries;
-          frames = T .frames;
-          many = T .many;
-          all = T .all;
-          why = cut h (λ l. omega (arith, space l, T .text .inside, wrote-long (T .text))) (T .text);
-        }
+    telling-cut h space = halts out o Cut (cut h (λ l. omega (arith, space l, T .text .inside, wrote-long (T .text))) (T .text))
 
     pub telling-full : i < have → length out - o < longest → Halts win s have from offset out₀ to out (record { at = i; to = o; count = count; why = Full })
-    telling-full h r =
-        record {
-          entries = T .entries;
-          frames = T .frames;
-          many = T .many;
-          all = T .all;
-          why = full h (omega (arith, wrote-long (T .text))) (T .text);
-        }
+    telling-full h r = halts out o Full (full h (omega (arith, wrote-long (T .text))) (T .text))
 
     -- a frame of this size begins here and ends within the bytes, and the offset of its line is put
     module _ (size : ℕ) (E : Ends s have i) (z : size ≡ frameSize (drop i s)) (space : longest ≤ length out - o) (out' : List ℕ) (a : ℕ)
@@ -98,13 +91,7 @@ module _ (win : List ℕ → Window) (s : List ℕ) (have from offset : ℕ) (ou
       telling-refused (Accepted m) e n = absurd (omega (arith, n))
       telling-refused (Bad number place) e n =
           let j : judgeOf win (drop i s) (frameSize (drop i s)) ≡ Bad number place = rw z at (sym e) in
-          record {
-            entries = T .entries;
-            frames = T .frames;
-            many = T .many;
-            all = T .all;
-            why = rw z (refused number place E roomy j (wrote-append (T .text) p));
-          }
+          halts out' a (Refused number place size) (rw z (refused number place E roomy j (wrote-append (T .text) p)))
 
       pub telling-more : (m : Message) → judgeOf win (drop i s) size ≡ Accepted m → (out'' : List ℕ) (o' : ℕ) → Wrote (acceptedOf (m .tag) size) out' a out'' o'
           → Telling out'' (i + size) o' (count + 1)
@@ -212,14 +199,16 @@ module _ (win : List ℕ → Window) (s : List ℕ) (have from offset frames acc
     good-both = accepts-append (P .entries) (H .entries) ∙ ap (λ (n : ℕ). accepts (P .entries) + n) (H .all)
 
     -- no further: cut, or no room
-    pub passing-ends : (b : Bool) → b ≡ isFull (r .why) → ((number place size : ℕ) → r .why ≡ Refused number place size → ⊥)
-        → Goes win s have from offset frames accepted out₀ to out'
+    abbrev Gone-here : Bool → Type 0
+    Gone-here b =
+        Goes win s have from offset frames accepted out₀ to out'
         (record { at = r .at; to = r .to; offset = off + (r .at - i); frames = fr + r .count; accepted = acc + r .count; full = b })
+
+    pub passing-ends : (b : Bool) → b ≡ isFull (r .why) → ((number place size : ℕ) → r .why ≡ Refused number place size → ⊥) → Gone-here b
     passing-ends b e not-bad = go (r .why) (H .why) refl
       where
-        ended : Wrote (linesOf (H .entries)) out o out' (r .to) → (b ≡ false → Cutting s have (r .at) × (r .at < have → r .to + longest ≤ length out₀)) → (b ≡ true → (r .at < have) × (length out₀ < r .to + longest))
-            → Goes win s have from offset frames accepted out₀ to out'
-            (record { at = r .at; to = r .to; offset = off + (r .at - i); frames = fr + r .count; accepted = acc + r .count; full = b })
+        ended : Wrote (linesOf (H .entries)) out o out' (r .to) → (b ≡ false → Cutting s have (r .at) × (r .at < have → r .to + longest ≤ length out₀))
+            → (b ≡ true → (r .at < have) × (length out₀ < r .to + longest)) → Gone-here b
         ended w c f =
             record {
               entries = P .entries ++ H .entries;
@@ -232,9 +221,7 @@ module _ (win : List ℕ → Window) (s : List ℕ) (have from offset frames acc
               full = f;
             }
 
-        go : (h : Halt) → Halting win s have i off out o (H .entries) (r .at) out' (r .to) h → r .why ≡ h
-            → Goes win s have from offset frames accepted out₀ to out'
-            (record { at = r .at; to = r .to; offset = off + (r .at - i); frames = fr + r .count; accepted = acc + r .count; full = b })
+        go : (h : Halt) → Halting win s have i off out o (H .entries) (r .at) out' (r .to) h → r .why ≡ h → Gone-here b
         go _ (cut c space w) y = ended w (λ _. (c, λ l. omega (arith, space l, long))) (λ t. absurd (false≢true (sym (e ∙ ap isFull y) ∙ t)))
         go _ (full lt room w) y = ended w (λ f. absurd (false≢true (sym f ∙ e ∙ ap isFull y))) (λ _. (lt, omega (arith, room, long)))
         go _ (refused number place E room j w) y = absurd (not-bad number place _ y)

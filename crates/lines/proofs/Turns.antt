@@ -1,16 +1,16 @@
--- What one turn over a block does, over plain values.
+-- What one turn over a block does, and what the turns keep, over plain values.
 -- Assumes nothing.
 use Prim.Native.Nat.{ℕ, zero, suc, _≤_, _<_, _-_, _+_}
 use mathlib.Core.Path.{_≡_, refl, sym, ap, _∙_}
-use mathlib.Core.Bool.{Bool, true, false, false≢true}
-use mathlib.Core.Logic.{_⊎_, inl, inr, ⊎-elim}
+use mathlib.Core.Bool.{true, false, false≢true}
+use mathlib.Core.Logic.{⊎-elim}
 use mathlib.Core.List.{List, _++_}
 use native.Mathlib.Omega.{arith}
 use native.Mathlib.Nat.{add-zero}
-use borrow.Author.Tests.{lt-ltb, le-ltb, ltb-true, ltb-false}
+use borrow.Author.Tests.{lt-ltb, le-ltb}
 use lib.ListN.{length, take, drop, length-drop, length-append}
 use lib.Seq.{take-all}
-use lib.Dec.{ltb}
+use Rattle.format.proofs.Tests.{le-or-lt}
 use Rattle.reader.specs.declared.Window.{Window}
 use Rattle.walk.specs.declared.Walk.{Walk}
 use Rattle.walk.specs.declared.Stepped.{Stepped}
@@ -28,12 +28,9 @@ use Rattle.lines.specs.Lines.{lineOf, linesOf}
 use Rattle.lines.specs.Blocks.{longest, toldOf, refusesOf, cutOf, Block, stopped, telling, followed, leftOf, endOf, blockOf, callOf, Called}
 use Rattle.lines.proofs.Moves.{Moved, step-moved}
 
-pub less? : (m n : ℕ) → (m < n) ⊎ (n ≤ m)
-less? m n = go (ltb m n) refl
-  where
-    go : (b : Bool) → ltb m n ≡ b → (m < n) ⊎ (n ≤ m)
-    go true e = inl (ltb-true m n e)
-    go false e = inr (ltb-false m n e)
+-- the three ways of a turn: nothing is left of the block, there is no room for another line, or a step is taken
+pub turn : {A : Type 0} (b : List ℕ) (i room : ℕ) → (length b ≤ i → A) → (i < length b → room < longest → A) → (i < length b → longest ≤ room → A) → A
+turn b i room used full step = ⊎-elim used (λ h. ⊎-elim (step h) (full h) (le-or-lt longest room)) (le-or-lt (length b) i)
 
 -- the part from i on that is lent to a step
 pub part-all : (b : List ℕ) (i : ℕ) → take (length b - i) (drop i b) ≡ drop i b
@@ -52,6 +49,12 @@ end-telling e r out out' o o' p =
     rw l
 
 module _ (win : List ℕ → Window) where
+  -- a turn that takes a step, by its answer
+  abbrev pub after : Answer → ℕ → ℕ → Stepped → Walk → List ℕ → ℕ → Block
+  after a k room st w b i =
+      let rest : ℕ → Block = λ rm. blockOf win k rm (st .state) b (i + st .used) in
+      followed a (λ e. telling e (rest (room - length (lineOf e)))) (rest room) (stopped w i Stopped)
+
   -- ---- the cases of `blockOf`
 
   pub block-used : (k room : ℕ) (w : Walk) (b : List ℕ) (i : ℕ) → length b ≤ i → blockOf win k room w b i ≡ stopped w i Used
@@ -64,8 +67,7 @@ module _ (win : List ℕ → Window) where
   block-full k room w b i h r = rw (lt-ltb i (length b) h, lt-ltb room longest r)
 
   pub block-step : (k room : ℕ) (w : Walk) (b : List ℕ) (i : ℕ) (st : Stepped) → i < length b → longest ≤ room → stepOf win w (drop i b) ≡ st
-      → blockOf win (suc k) room w b i
-      ≡ followed (st .answer) (λ e. telling e (blockOf win k (room - length (lineOf e)) (st .state) b (i + st .used))) (blockOf win k room (st .state) b (i + st .used)) (stopped w i Stopped)
+      → blockOf win (suc k) room w b i ≡ after (st .answer) k room st w b i
   unfolding blockOf
   block-step k room w b i st h r e = rw (lt-ltb i (length b) h, le-ltb room longest r, e)
 
@@ -88,8 +90,7 @@ module _ (win : List ℕ → Window) where
 
   same-after : (j k room : ℕ) (w : Walk) (b : List ℕ) (i : ℕ) (st : Stepped) (a : Answer)
       → (refusesOf a ≡ false → (rm : ℕ) → blockOf win j rm (st .state) b (i + st .used) ≡ blockOf win k rm (st .state) b (i + st .used))
-      → followed a (λ e. telling e (blockOf win j (room - length (lineOf e)) (st .state) b (i + st .used))) (blockOf win j room (st .state) b (i + st .used)) (stopped w i Stopped)
-      ≡ followed a (λ e. telling e (blockOf win k (room - length (lineOf e)) (st .state) b (i + st .used))) (blockOf win k room (st .state) b (i + st .used)) (stopped w i Stopped)
+      → after a j room st w b i ≡ after a k room st w b i
   same-after j k room w b i st (Frame at size what) ih =
       let e : Entry = record { at = at; size = size; what = what } in
       ap (telling e) (ih refl (room - length (lineOf e)))
@@ -102,19 +103,16 @@ module _ (win : List ℕ → Window) where
   block-enough (suc j) zero room w b i h g = block-used (suc j) room w b i (omega arith) ∙ sym (block-used zero room w b i (omega arith))
   block-enough (suc j) (suc k) room w b i h g =
       let st = stepOf win w (drop i b) in
-      ⊎-elim
-      (λ lt.
-      ⊎-elim (λ r. block-full j room w b i lt r ∙ sym (block-full k room w b i lt r))
-      (λ r.
+      turn b i room
+      (λ le. block-used (suc j) room w b i le ∙ sym (block-used (suc k) room w b i le))
+      (λ lt r. block-full j room w b i lt r ∙ sym (block-full k room w b i lt r))
+      (λ lt r.
       block-step j room w b i st lt r refl
       ∙ same-after j k room w b i st (st .answer)
       (λ x rm.
       let u = uses w b i st lt refl x in
       block-enough j k rm (st .state) b (i + st .used) (omega (arith, u .0)) (omega (arith, u .0)))
       ∙ sym (block-step k room w b i st lt r refl))
-      (less? room longest))
-      (λ le. block-used (suc j) room w b i le ∙ sym (block-used (suc k) room w b i le))
-      (less? i (length b))
 
   -- a call that does nothing: nothing is left of the block, or the buffer has no room for a line
   called-stopped : (w : Walk) (b : List ℕ) (from : ℕ) (out : List ℕ) (at : ℕ) (y : Why) → callOf win w b from out at ≡ stopped w from y

@@ -2,7 +2,7 @@
 -- Assumes nothing.
 use Prim.Native.Nat.{ℕ, suc, _<_, _-_, _+_, _^_}
 use mathlib.Core.Path.{_≡_, refl, ap, sym, _∙_}
-use mathlib.Core.List.{List, [], _∷_, _++_, append-assoc, append-nil}
+use mathlib.Core.List.{List, [], _∷_, _++_, append-nil}
 use native.Mathlib.Omega.{arith}
 use native.Mathlib.Nat.{zero-add}
 use lib.ListN.{length, take, drop, length-append, drop-of-length-le}
@@ -14,19 +14,14 @@ use Rattle.walk.specs.Frames.{Entry, allUsed, Ran, run, joined, accepts, walkOf
 use Rattle.demand.proofs.Steps.{Holds}
 use Rattle.demand.proofs.Cut.{cut}
 use Rattle.demand.proofs.Demand3.{lawful}
-use Rattle.lines.specs.Lines.{lineOf, linesOf, closingOf, textOf}
+use Rattle.lines.specs.Lines.{linesOf, closingOf, textOf}
 use Rattle.lines.specs.Blocks.{Block, callOf, Called}
 use Rattle.lines.specs.declared.Blocked.{Blocked}
+use Rattle.lines.proofs.Told.{lines-append}
 use Rattle.text.specs.Decimal.{Wrote}
 use Rattle.text.proofs.Laws.{wrote-front}
 use Rattle.output.specs.Calls.{Calls, over, next, call, Over}
 use Rattle.output.proofs.Runs.{tells, run-skip, Ahead, ahead}
-
--- the texts of two lots of frames
-pub lines-append : (xs ys : List Entry) → linesOf (xs ++ ys) ≡ linesOf xs ++ linesOf ys
-unfolding linesOf
-lines-append [] ys = refl
-lines-append (x ∷ xs) ys = ap (λ (l : List ℕ). lineOf x ++ l) (lines-append xs ys) ∙ sym (append-assoc (lineOf x) (linesOf xs) (linesOf ys))
 
 module _ (win : List ℕ → Window) (laws : Lawful win) where
   abbrev all : List Entry → Walk → Ran
@@ -88,7 +83,10 @@ module _ (win : List ℕ → Window) (laws : Lawful win) where
       let T = calls-run c (A .seen) (rw x (A .holds)) (rw (x, y) (omega (arith, A .bytes, length-append (drop (B .from) b) (joined ps)))) in
       record {
         frames = B .entries ++ T .frames;
-        text = ap (λ (z : List ℕ). z ++ joined ts) (call-text w b i out after r C) ∙ ap (λ (z : List ℕ). linesOf (B .entries) ++ z) (T .text) ∙ sym (lines-append (B .entries) (T .frames));
+        text =
+            ap (λ (z : List ℕ). z ++ joined ts) (call-text w b i out after r C)
+            ∙ ap (λ (z : List ℕ). linesOf (B .entries) ++ z) (T .text)
+            ∙ sym (lines-append (B .entries) (T .frames));
         run = runs-call w (r .state) w' q b i (r .from) ps (T .frames) B A x y (T .run);
       }
 

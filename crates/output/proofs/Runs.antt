@@ -8,6 +8,7 @@ use native.Mathlib.Omega.{arith}
 use native.Mathlib.Nat.{zero-add}
 use lib.ListN.{length, take, drop, length-append, length-drop, drop-of-length-le}
 use lib.Seq.{drop-drop}
+use Rattle.format.proofs.Tests.{le-or-lt}
 use Rattle.reader.specs.declared.Window.{Window}
 use Rattle.walk.specs.declared.Walk.{Walk}
 use Rattle.walk.specs.Walk.{frameSize, frameOf, pastOf, moreOf, doneOf, stepOf, Lawful}
@@ -19,7 +20,7 @@ use Rattle.lines.specs.declared.Why.{Why}
 use Rattle.lines.specs.declared.Why.the-variants.{Used, Full}
 use Rattle.lines.specs.Lines.{lineOf}
 use Rattle.lines.specs.Blocks.{longest, Block, stopped, telling, blockOf}
-use Rattle.lines.proofs.Turns.{less?, block-used, block-full, block-step}
+use Rattle.lines.proofs.Turns.{turn, block-used, block-full, block-step}
 
 -- some frames told of, and then the run r
 abbrev pub tells : List Entry → Ran → Ran
@@ -119,15 +120,13 @@ module _ (win : List ℕ → Window) (laws : Lawful win) where
         (IH (room - length (lineOf en)) (pastOf w n v) [] b (i + u) (holds-past win laws w q H n v (omega arith)) (omega arith)))
 
     ahead-step : Ahead w q b i (blockOf win (suc k) room w b i)
-    ahead-step = ⊎-elim ahead-more ahead-done (less? (length (q ++ drop i b)) (frameSize (q ++ drop i b)))
+    ahead-step = ⊎-elim ahead-done ahead-more (le-or-lt (frameSize (q ++ drop i b)) (length (q ++ drop i b)))
 
   pub ahead : (k : ℕ) → AheadAt k
   unfolding blockOf
   ahead zero room w q b i H t = ahead-stopped w q b i Used H
   ahead (suc k) room w q b i H t =
-      ⊎-elim
-      (λ h.
-      ⊎-elim (λ r. rw (block-full win k room w b i h r) (ahead-stopped w q b i Full H))
-      (λ r. ahead-step k (ahead k) room w q b i H t h r) (less? room longest))
+      turn b i room
       (λ h. rw (block-used win (suc k) room w b i h) (ahead-stopped w q b i Used H))
-      (less? i (length b))
+      (λ h r. rw (block-full win k room w b i h r) (ahead-stopped w q b i Full H))
+      (λ h r. ahead-step k (ahead k) room w q b i H t h r)

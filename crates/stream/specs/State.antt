@@ -1,11 +1,12 @@
--- The state: fresh; refused and unchanged; and the error mark. The tests that several calls share, in their order.
+-- The state: fresh; refused and unchanged; and the error mark. The number and the place of an answer. The tests that several calls share, in their order.
 -- Assumes nothing.
 use Prim.Native.Nat.{ℕ}
 use mathlib.Core.Bool.{true, false, cond}
 use lib.Dec.{leb, eqb}
 use Rattle.stream.specs.declared.Stream.{Stream}
 use Rattle.stream.specs.declared.Step.{Step}
-use Rattle.stream.specs.declared.Answer.the-variants.{Nothing, Refused}
+use Rattle.stream.specs.declared.Answer.{Answer}
+use Rattle.stream.specs.declared.Answer.the-variants.{Message, Wants, Ready, Nothing, Refused}
 
 abbrev pub freshState : Stream
 freshState = record { start = 0; end = 0; «bytes_read» = 0; «read_calls» = 0; messages = 0; error = false }
@@ -22,6 +23,21 @@ marks s n p =
       state = record { start = s .start; end = s .end; «bytes_read» = s .«bytes_read»; «read_calls» = s .«read_calls»; messages = s .messages; error = true };
       answer = Refused n p;
     })
+
+-- the number and the place of a refusal; 0 and 0 of any other answer
+abbrev pub numberOf : Answer → ℕ
+numberOf (Refused n p) = n
+numberOf (Message m) = 0
+numberOf Wants = 0
+numberOf Ready = 0
+numberOf Nothing = 0
+
+abbrev pub placeOf : Answer → ℕ
+placeOf (Refused n p) = p
+placeOf (Message m) = 0
+placeOf Wants = 0
+placeOf Ready = 0
+placeOf Nothing = 0
 
 -- 31: the buffer has not 8,192 bytes
 abbrev pub sized : {A : Type 0} → ℕ → (ℕ → A) → A → A

@@ -7,9 +7,7 @@ use native.Mathlib.Omega.{arith}
 use Rattle.laws.proofs.Numbers.{number-low}
 use Rattle.stream.specs.declared.Stream.{Stream}
 use Rattle.stream.specs.declared.Step.{Step}
-use Rattle.stream.specs.declared.Answer.{Answer}
-use Rattle.stream.specs.declared.Answer.the-variants.{Message, Wants, Ready, Nothing, Refused}
-use Rattle.stream.specs.State.{marks}
+use Rattle.stream.specs.State.{marks, numberOf}
 use Rattle.stream.specs.Next.{windowAt, nextOf}
 use Rattle.stream.specs.Room.{roomOf}
 use Rattle.stream.specs.Told.{toldOf, failedOf}
@@ -17,23 +15,13 @@ use Rattle.stream_laws.specs.Runs.{Sound, Reached}
 use Rattle.stream_laws.proofs.Steps.{test, 31-next, 30-next, 33-next, Next, no-next, message, wants, marked-next, next-is, 31-room, 30-room, 34-room, 33-room, front, there, Room, no-room, made, room-is, 30-told, 32-told, 33-told, Told, no-told, came, nothing, marked-told, told-is, Failed, 30-failed, marked-failed, failed-is}
 use Rattle.stream_laws.proofs.Reach.{known}
 
--- the number of an answer; 0 if it is no refusal
-unfoldable pub numberOf : Answer → ℕ
-numberOf (Message m) = 0
-numberOf Wants = 0
-numberOf Ready = 0
-numberOf Nothing = 0
-numberOf (Refused n p) = n
-
 abbrev pub Not30 : Step → Type 0
 Not30 x = numberOf (x .answer) ≡ 30 → ⊥
 
 marks-not : (s : Stream) (n p : ℕ) → n ≤ 11 → Not30 (marks s n p)
-unfolding numberOf
 marks-not s n p h = test Not30 (s .error) (λ _ e. omega arith) (λ _ e. omega arith)
 
 next-not : (s : Stream) (b : List ℕ) (x : Step) → Next s b x → Sound s → Not30 x
-unfolding numberOf
 next-not s b _ (no-next (31-next _)) h e = omega arith
 next-not s b _ (no-next (30-next f)) h e = f h
 next-not s b _ (no-next (33-next _)) h e = omega arith
@@ -42,7 +30,6 @@ next-not s b _ (wants g l w) h e = omega arith
 next-not s b _ (marked-next g l n p w) h e = marks-not s n p (omega (arith, number-low (windowAt s b) n p w)) e
 
 room-not : (s : Stream) (len : ℕ) (x : Step) → Room s len x → Sound s → Not30 x
-unfolding numberOf
 room-not s len _ (no-room (31-room _)) h e = omega arith
 room-not s len _ (no-room (30-room f)) h e = f h
 room-not s len _ (no-room (34-room _)) h e = omega arith
@@ -51,7 +38,6 @@ room-not s len _ (made (front p a)) h e = omega arith
 room-not s len _ (made (there p a)) h e = omega arith
 
 told-not : (s : Stream) (n : ℕ) (x : Step) → Told s n x → Sound s → Not30 x
-unfolding numberOf
 told-not s n _ (no-told (30-told f)) h e = f h
 told-not s n _ (no-told (32-told _)) h e = omega arith
 told-not s n _ (no-told (33-told _)) h e = omega arith

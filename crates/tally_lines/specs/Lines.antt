@@ -7,7 +7,7 @@ use lib.Dec.{eqb, ltb}
 use lib.ListN.{length, getD}
 use Rattle.text.specs.Decimal.{behind}
 use Rattle.stream.specs.declared.Answer.{Answer}
-use Rattle.stream.specs.declared.Answer.the-variants.{Message, Wants, Ready, Nothing, Refused}
+use Rattle.stream.specs.State.{numberOf, placeOf}
 
 -- the line of a tag value, if it has one
 unfoldable pub lineOf : ℕ → ℕ → List ℕ
@@ -25,28 +25,13 @@ messagesText = 109 ∷ 101 ∷ 115 ∷ 115 ∷ 97 ∷ 103 ∷ 101 ∷ 115 ∷ 32
 abbrev pub stoppedText : List ℕ
 stoppedText = 115 ∷ 116 ∷ 111 ∷ 112 ∷ 112 ∷ 101 ∷ 100 ∷ 32 ∷ []
 
--- the number and the place that an answer prints: its own, if it is a refusal; 0 and 0 at a clean end
-abbrev pub numberOf : Answer → ℕ
-numberOf (Refused n p) = n
-numberOf (Message m) = 0
-numberOf Wants = 0
-numberOf Ready = 0
-numberOf Nothing = 0
-
-abbrev pub placeOf : Answer → ℕ
-placeOf (Refused n p) = p
-placeOf (Message m) = 0
-placeOf Wants = 0
-placeOf Ready = 0
-placeOf Nothing = 0
-
 unfoldable pub messagesOf : ℕ → List ℕ
 messagesOf n = messagesText ++ behind n 10
 
 unfoldable pub stoppedOf : ℕ → ℕ → List ℕ
 stoppedOf number place = stoppedText ++ (behind number 32 ++ behind place 10)
 
--- the whole output
+-- the whole output: the stream stopped at 0 0, if its end was clean
 unfoldable pub tallyOf : List ℕ → ℕ → Answer → List ℕ
 tallyOf c messages a = linesOf c 256 ++ (messagesOf messages ++ stoppedOf (numberOf a) (placeOf a))
 

@@ -3,7 +3,8 @@ ghost use mathlib.Core.Path.{_≡_};
 ghost use Prim.Native.Nat.{_+_, _≤_};
 ghost use lib.ListN.{length};
 ghost use Rattle.text.specs.Decimal.{Wrote, Puts};
-ghost use Rattle.tally_lines.specs.Lines.{lineOf, linesOf, numberOf, placeOf, messagesOf, stoppedOf, printedOf};
+ghost use Rattle.stream.specs.State.{numberOf, placeOf};
+ghost use Rattle.tally_lines.specs.Lines.{lineOf, linesOf, messagesOf, stoppedOf, printedOf};
 use stream::Answer;
 
 // The line of a tag value, if its count is above zero.
@@ -13,12 +14,13 @@ fn line(tag: u8, n: u64, out: &mut [u8], at: usize) -> usize
 {
     if n > 0 {
         let a = text::byte(tag, out, at);
-        let b = text::byte(32, out, a);
-        return text::number(n, 10, out, b);
+        let b = text::byte(b' ', out, a);
+        return text::number(n, b'\n', out, b);
     }
     at
 }
 
+// The lines of all tag values, in byte order.
 fn lines(count: &[u64], out: &mut [u8]) -> usize
     requires { ⌜ (length (now count) ≡ 256) × (5888 ≤ length (now out)) ⌝ }
     ensures { λ r. ⌜ Wrote (linesOf (now (count .entry)) 256) (now (out .entry)) 0 (now (out .exit)) r × (r ≤ 5888) ⌝ }
@@ -36,20 +38,20 @@ fn messages_line(messages: u64, out: &mut [u8], at: usize) -> usize
     requires { ⌜ at + 30 ≤ length (now out) ⌝ }
     ensures { λ r. ⌜ Wrote (messagesOf messages) (now (out .entry)) at (now (out .exit)) r × (r ≤ at + 30) ⌝ }
 {
-    let a = text::word(109, 101, 115, 115, out, at);
-    let b = text::word(97, 103, 101, 115, out, a);
-    let c = text::byte(32, out, b);
-    text::number(messages, 10, out, c)
+    let a = text::word(b'm', b'e', b's', b's', out, at);
+    let b = text::word(b'a', b'g', b'e', b's', out, a);
+    let c = text::byte(b' ', out, b);
+    text::number(messages, b'\n', out, c)
 }
 
 fn stopped_line(stop: u8, place: usize, out: &mut [u8], at: usize) -> usize
     requires { ⌜ at + 50 ≤ length (now out) ⌝ }
     ensures { λ r. ⌜ Wrote (stoppedOf stop place) (now (out .entry)) at (now (out .exit)) r ⌝ }
 {
-    let a = text::word(115, 116, 111, 112, out, at);
-    let b = text::word(112, 101, 100, 32, out, a);
-    let c = text::number(stop as u64, 32, out, b);
-    text::number(place as u64, 10, out, c)
+    let a = text::word(b's', b't', b'o', b'p', out, at);
+    let b = text::word(b'p', b'e', b'd', b' ', out, a);
+    let c = text::number(stop as u64, b' ', out, b);
+    text::number(place as u64, b'\n', out, c)
 }
 
 fn number_of(answer: Answer) -> u8

@@ -15,14 +15,16 @@ returns-2 c = puts-full (omega arith)
 
 returns-3 : tie.Need-returns-3
 returns-3 c =
-    puts-fits (omega arith) (wrote-as (closes-more (c .before .before .before .before .args .w) (omega arith)) (wrote-none (c .before .before .before .before .args .out .now) (c .before .before .before .before .args .at) (omega arith)))
+    let a = c .before .before .before .before .args in
+    puts-fits (omega arith) (wrote-as (closes-more (a .w) (omega arith)) (wrote-none (a .out .now) (a .at) (omega arith)))
 
 sub-if4 : tie.Need-sub-if4
 sub-if4 c = search needs
 
 returns-4 : tie.Need-returns-4
 returns-4 c =
-    puts-fits (omega arith) (wrote-as (closes-past (c .before .before .before .before .before .args .w) (omega arith)) (wrote-none (c .before .before .before .before .before .args .out .now) (c .before .before .before .before .before .args .at) (omega arith)))
+    let a = c .before .before .before .before .before .args in
+    puts-fits (omega arith) (wrote-as (closes-past (a .w) (omega arith)) (wrote-none (a .out .now) (a .at) (omega arith)))
 
 tail-requires : tie.Need-tail-requires
 tail-requires c κs = search needs
@@ -31,7 +33,9 @@ add-bytes : tie.Need-add-bytes
 add-bytes c = search needs
 
 total-requires : tie.Need-total-requires
-total-requires c κs = omega (arith, tail-long (c .before .before .before .before .before .before .before .before .before .before .args .w .offset) (c .before .before .before .before .before .before .before .before .before .before .args .w .seen) (search needs) (search needs), c .before .before .before .tail .ensures .next)
+total-requires c κs =
+    let a = c .before .before .before .before .before .before .before .before .before .before .args in
+    omega (arith, tail-long (a .w .offset) (a .w .seen) (search needs) (search needs), c .before .before .before .tail .ensures .next)
 
 same-length : tie.Need-same-length
 same-length c = search needs

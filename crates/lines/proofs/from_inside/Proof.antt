@@ -1,7 +1,7 @@
 -- `lines::from_inside` meets its contract.
 -- Assumes nothing.
 use Prim.Native.Nat.{_-_, _≤_}
-use mathlib.Core.Path.{_≡_, refl}
+use mathlib.Core.Path.{refl}
 use native.Mathlib.Omega.{arith}
 use lib.ListN.{length}
 use Rattle.reader.specs.Window.{windowOf}
@@ -9,7 +9,7 @@ use Rattle.walk.specs.Walk.{countOf, judgeOf}
 use Rattle.text.proofs.Laws.{wrote-long}
 use Rattle.lines.proofs.Turns.{part-all}
 use Rattle.lines.proofs.Starts.{ready-all}
-use Rattle.lines.proofs.Inside.{inside-cut, inside-fits, inside-line, held-line, held-past, held-told, held-good}
+use Rattle.lines.proofs.Inside.{inside-cut, inside-fits, inside-line, held-one}
 use borrow.Author.Needs.{needs}
 use Rattle.lines.proofs.from_inside.Statement.{statement}
 use Rattle.lines.proofs.from_inside.Tie as tie
@@ -39,13 +39,20 @@ sub-left : tie.Need-sub-left
 sub-left c = search needs
 
 add-total : tie.Need-add-total
-add-total c = omega (arith, ready-all (c .before .before .before .before .before .before .before .args .w) (length (c .before .before .before .before .before .before .before .args .block .now) - c .before .before .before .before .before .before .before .args .from) (c .before .before .before .before .before .before .before .pre .2) .room)
+add-total c =
+    let a = c .before .before .before .before .before .before .before .args in
+    omega (arith, ready-all (a .w) (length (a .block .now) - a .from) (c .before .before .before .before .before .before .before .pre .2) .room)
 
 add-t32 : tie.Need-add-t32
 add-t32 c = search needs
 
 returns : tie.Need-returns
-returns c = inside-cut windowOf (c .before .before .before .before .before .before .before .before .args .w) (c .before .before .before .before .before .before .before .before .args .block .now) (c .before .before .before .before .before .before .before .before .args .from) (c .before .before .before .before .before .before .before .before .args .out .now) (c .before .before .before .before .before .before .before .before .args .at) (c .before .before .before .before .before .before .before .before .pre .0) (c .before .before .before .before .before .before .before .before .pre .1) (c .before .before .before .before .before .before .before .before .pre .2) (c .before .before .put-in .result) (c .before .size-by .result) (rw (part-all (c .before .before .before .before .before .before .before .before .args .block .now) (c .before .before .before .before .before .before .before .before .args .from)) at (c .before .before .put-in .ensures)) (c .before .size-by .ensures) (c .if1 .taken)
+returns c =
+    let a = c .before .before .before .before .before .before .before .before .args in
+    let pre = c .before .before .before .before .before .before .before .before .pre in
+    let put = c .before .before .put-in in
+    inside-cut windowOf (a .w) (a .block .now) (a .from) (a .out .now) (a .at) (pre .0) (pre .1) (pre .2) (put .result) (c .before .size-by .result)
+    (rw (part-all (a .block .now) (a .from)) at (put .ensures)) (c .before .size-by .ensures) (c .if1 .taken)
 
 slice-aggregate-told-frames : tie.Need-slice-aggregate-told-frames
 slice-aggregate-told-frames c = search needs
@@ -57,7 +64,14 @@ told-frames-requires c κs =
     (record { begun = omega arith; fits = omega (arith, f .room); digits = c .before .before .before .before .before .before .before .before .before .before .pre .3; inside = omega (arith, c .before .before .before .before .before .before .before .before .before .before .pre .1) }, r .two, r .counted)
 
 sub-used : tie.Need-sub-used
-sub-used c = inside-fits windowOf (c .before .before .before .before .before .before .before .before .before .before .before .before .before .args .w) (c .before .before .before .before .before .before .before .before .before .before .before .before .before .args .block .now) (c .before .before .before .before .before .before .before .before .before .before .before .before .before .args .from) (c .before .before .before .before .before .before .before .before .before .before .before .before .before .args .out .now) (c .before .before .before .before .before .before .before .before .before .before .before .before .before .args .at) (c .before .before .before .before .before .before .before .before .before .before .before .before .before .pre .0) (c .before .before .before .before .before .before .before .before .before .before .before .before .before .pre .1) (c .before .before .before .before .before .before .before .before .before .before .before .before .before .pre .2) (c .before .before .before .before .before .before .before .put-in .result) (c .before .before .before .before .before .before .size-by .result) (rw (part-all (c .before .before .before .before .before .before .before .before .before .before .before .before .before .args .block .now) (c .before .before .before .before .before .before .before .before .before .before .before .before .before .args .from)) at (c .before .before .before .before .before .before .before .put-in .ensures)) (c .before .before .before .before .before .before .size-by .ensures) (countOf (judgeOf windowOf (c .before .before .before .before .before .before .before .put-in .result) (c .before .before .before .before .before .before .size-by .result))) refl (c .before .before .before .before .before .if1 .left) .more
+sub-used c =
+    let a = c .before .before .before .before .before .before .before .before .before .before .before .before .before .args in
+    let pre = c .before .before .before .before .before .before .before .before .before .before .before .before .before .pre in
+    let put = c .before .before .before .before .before .before .before .put-in in
+    let sized = c .before .before .before .before .before .before .size-by in
+    inside-fits windowOf (a .w) (a .block .now) (a .from) (a .out .now) (a .at) (pre .0) (pre .1) (pre .2) (put .result) (sized .result)
+    (rw (part-all (a .block .now) (a .from)) at (put .ensures)) (sized .ensures) (countOf (judgeOf windowOf (put .result) (sized .result))) refl
+    (c .before .before .before .before .before .if1 .left) .more
 
 add-from-start : tie.Need-add-from-start
 add-from-start c = search needs
@@ -68,22 +82,40 @@ held-two c = search needs
 
 from-start-requires : tie.Need-from-start-requires
 from-start-requires c κs =
+    let a = c .before .before .before .before .before .before .before .before .before .before .before .before .before .before .args in
+    let pre = c .before .before .before .before .before .before .before .before .before .before .before .before .before .before .pre in
+    let put = c .before .before .before .before .before .before .before .before .put-in in
+    let sized = c .before .before .before .before .before .before .before .size-by in
     let two = held-two c in
-    let f = inside-fits windowOf (c .before .before .before .before .before .before .before .before .before .before .before .before .before .before .args .w) (c .before .before .before .before .before .before .before .before .before .before .before .before .before .before .args .block .now) (c .before .before .before .before .before .before .before .before .before .before .before .before .before .before .args .from) (c .before .before .before .before .before .before .before .before .before .before .before .before .before .before .args .out .now) (c .before .before .before .before .before .before .before .before .before .before .before .before .before .before .args .at) (c .before .before .before .before .before .before .before .before .before .before .before .before .before .before .pre .0) (c .before .before .before .before .before .before .before .before .before .before .before .before .before .before .pre .1) (c .before .before .before .before .before .before .before .before .before .before .before .before .before .before .pre .2) (c .before .before .before .before .before .before .before .before .put-in .result) (c .before .before .before .before .before .before .before .size-by .result) (rw (part-all (c .before .before .before .before .before .before .before .before .before .before .before .before .before .before .args .block .now) (c .before .before .before .before .before .before .before .before .before .before .before .before .before .before .args .from)) at (c .before .before .before .before .before .before .before .before .put-in .ensures)) (c .before .before .before .before .before .before .before .size-by .ensures) (countOf (judgeOf windowOf (c .before .before .before .before .before .before .before .before .put-in .result) (c .before .before .before .before .before .before .before .size-by .result))) refl (c .before .before .before .before .before .before .if1 .left) in
-    let p = held-line windowOf (c .before .before .before .before .before .before .before .before .put-in .result) (c .before .before .before .before .before .before .before .size-by .result) (c .before .before .before .before .before .before .before .before .before .before .before .before .before .before .args .w .offset) (c .before .before .before .before .before .before .before .before .before .before .before .before .before .before .args .w .frames) (c .before .before .before .before .before .before .before .before .before .before .before .before .before .before .args .w .accepted) _ _ _ _ (c .before .before .before .told-frames .ensures) two (c .before .before .before .before .before .before .before .size-by .ensures) (c .before .before .before .before .before .before .before .before .before .before .before .before .before .before .pre .1) in
-    let past = held-past windowOf (c .before .before .before .before .before .before .before .before .put-in .result) (c .before .before .before .before .before .before .before .size-by .result) (c .before .before .before .before .before .before .before .before .before .before .before .before .before .before .args .w .offset) (c .before .before .before .before .before .before .before .before .before .before .before .before .before .before .args .w .frames) (c .before .before .before .before .before .before .before .before .before .before .before .before .before .before .args .w .accepted) _ _ _ _ (c .before .before .before .told-frames .ensures) two (c .before .before .before .before .before .before .before .size-by .ensures) (c .before .before .before .before .before .before .before .before .before .before .before .before .before .before .pre .1) in
-    let told = held-told windowOf (c .before .before .before .before .before .before .before .before .put-in .result) (c .before .before .before .before .before .before .before .size-by .result) (c .before .before .before .before .before .before .before .before .before .before .before .before .before .before .args .w .offset) (c .before .before .before .before .before .before .before .before .before .before .before .before .before .before .args .w .frames) (c .before .before .before .before .before .before .before .before .before .before .before .before .before .before .args .w .accepted) _ _ _ _ (c .before .before .before .told-frames .ensures) two (c .before .before .before .before .before .before .before .size-by .ensures) (c .before .before .before .before .before .before .before .before .before .before .before .before .before .before .pre .1) in
-    let good = held-good windowOf (c .before .before .before .before .before .before .before .before .put-in .result) (c .before .before .before .before .before .before .before .size-by .result) (c .before .before .before .before .before .before .before .before .before .before .before .before .before .before .args .w .offset) (c .before .before .before .before .before .before .before .before .before .before .before .before .before .before .args .w .frames) (c .before .before .before .before .before .before .before .before .before .before .before .before .before .before .args .w .accepted) _ _ _ _ (c .before .before .before .told-frames .ensures) two (c .before .before .before .before .before .before .before .size-by .ensures) (c .before .before .before .before .before .before .before .before .before .before .before .before .before .before .pre .1) in
-    (f .within, omega (arith, p .inside, wrote-long p), omega (arith, f .room, past), omega (arith, f .two, told, past), omega (arith, f .counted, good, told), c .before .before .before .before .before .before .before .before .before .before .before .before .before .before .pre .3)
+    let f = inside-fits windowOf (a .w) (a .block .now) (a .from) (a .out .now) (a .at) (pre .0) (pre .1) (pre .2) (put .result) (sized .result)
+    (rw (part-all (a .block .now) (a .from)) at (put .ensures)) (sized .ensures) (countOf (judgeOf windowOf (put .result) (sized .result))) refl
+    (c .before .before .before .before .before .before .if1 .left) in
+    let o = held-one windowOf (put .result) (sized .result) (a .w .offset) (a .w .frames) (a .w .accepted) _ _ _ _
+    (c .before .before .before .told-frames .ensures) two (sized .ensures) (pre .1) in (
+      f .within,
+      omega (arith, o .line .inside, wrote-long (o .line)),
+      omega (arith, f .room, o .past),
+      omega (arith, f .two, o .told, o .past),
+      omega (arith, f .counted, o .good, o .told),
+      pre .3,
+    )
 
 same-length : tie.Need-same-length
 same-length c = search needs
 
 returns-2 : tie.Need-returns-2
 returns-2 c =
+    let a = c .before .before .before .before .before .before .before .before .before .before .before .before .before .before .before .before .before .args in
+    let pre = c .before .before .before .before .before .before .before .before .before .before .before .before .before .before .before .before .before .pre in
+    let put = c .before .before .before .before .before .before .before .before .before .before .before .put-in in
+    let sized = c .before .before .before .before .before .before .before .before .before .before .size-by in
     let two = held-two (c .before .before .before) in
-    inside-line windowOf (c .before .before .before .before .before .before .before .before .before .before .before .before .before .before .before .before .before .args .w) (c .before .before .before .before .before .before .before .before .before .before .before .before .before .before .before .before .before .args .block .now) (c .before .before .before .before .before .before .before .before .before .before .before .before .before .before .before .before .before .args .from) (c .before .before .before .before .before .before .before .before .before .before .before .before .before .before .before .before .before .args .out .now) (c .before .before .before .before .before .before .before .before .before .before .before .before .before .before .before .before .before .args .at) (c .before .before .before .before .before .before .before .before .before .before .before .before .before .before .before .before .before .pre .0) (c .before .before .before .before .before .before .before .before .before .before .before .before .before .before .before .before .before .pre .1) (c .before .before .before .before .before .before .before .before .before .before .before .before .before .before .before .before .before .pre .2) (c .before .before .before .before .before .before .before .before .before .before .before .put-in .result) (c .before .before .before .before .before .before .before .before .before .before .size-by .result) (rw (part-all (c .before .before .before .before .before .before .before .before .before .before .before .before .before .before .before .before .before .args .block .now) (c .before .before .before .before .before .before .before .before .before .before .before .before .before .before .before .before .before .args .from)) at (c .before .before .before .before .before .before .before .before .before .before .before .put-in .ensures)) (c .before .before .before .before .before .before .before .before .before .before .size-by .ensures) (c .before .before .before .before .before .before .before .before .before .if1 .left) _ _ _ (held-line windowOf (c .before .before .before .before .before .before .before .before .before .before .before .put-in .result) (c .before .before .before .before .before .before .before .before .before .before .size-by .result) (c .before .before .before .before .before .before .before .before .before .before .before .before .before .before .before .before .before .args .w .offset) (c .before .before .before .before .before .before .before .before .before .before .before .before .before .before .before .before .before .args .w .frames) (c .before .before .before .before .before .before .before .before .before .before .before .before .before .before .before .before .before .args .w .accepted) _ _ _ _ (c .before .before .before .before .before .before .told-frames .ensures) two (c .before .before .before .before .before .before .before .before .before .before .size-by .ensures) (c .before .before .before .before .before .before .before .before .before .before .before .before .before .before .before .before .before .pre .1)) refl _ _
-    (rw (held-past windowOf (c .before .before .before .before .before .before .before .before .before .before .before .put-in .result) (c .before .before .before .before .before .before .before .before .before .before .size-by .result) (c .before .before .before .before .before .before .before .before .before .before .before .before .before .before .before .before .before .args .w .offset) (c .before .before .before .before .before .before .before .before .before .before .before .before .before .before .before .before .before .args .w .frames) (c .before .before .before .before .before .before .before .before .before .before .before .before .before .before .before .before .before .args .w .accepted) _ _ _ _ (c .before .before .before .before .before .before .told-frames .ensures) two (c .before .before .before .before .before .before .before .before .before .before .size-by .ensures) (c .before .before .before .before .before .before .before .before .before .before .before .before .before .before .before .before .before .pre .1), held-told windowOf (c .before .before .before .before .before .before .before .before .before .before .before .put-in .result) (c .before .before .before .before .before .before .before .before .before .before .size-by .result) (c .before .before .before .before .before .before .before .before .before .before .before .before .before .before .before .before .before .args .w .offset) (c .before .before .before .before .before .before .before .before .before .before .before .before .before .before .before .before .before .args .w .frames) (c .before .before .before .before .before .before .before .before .before .before .before .before .before .before .before .before .before .args .w .accepted) _ _ _ _ (c .before .before .before .before .before .before .told-frames .ensures) two (c .before .before .before .before .before .before .before .before .before .before .size-by .ensures) (c .before .before .before .before .before .before .before .before .before .before .before .before .before .before .before .before .before .pre .1), held-good windowOf (c .before .before .before .before .before .before .before .before .before .before .before .put-in .result) (c .before .before .before .before .before .before .before .before .before .before .size-by .result) (c .before .before .before .before .before .before .before .before .before .before .before .before .before .before .before .before .before .args .w .offset) (c .before .before .before .before .before .before .before .before .before .before .before .before .before .before .before .before .before .args .w .frames) (c .before .before .before .before .before .before .before .before .before .before .before .before .before .before .before .before .before .args .w .accepted) _ _ _ _ (c .before .before .before .before .before .before .told-frames .ensures) two (c .before .before .before .before .before .before .before .before .before .before .size-by .ensures) (c .before .before .before .before .before .before .before .before .before .before .before .before .before .before .before .before .before .pre .1)) at (c .before .before .from-start .ensures))
+    let o = held-one windowOf (put .result) (sized .result) (a .w .offset) (a .w .frames) (a .w .accepted) _ _ _ _
+    (c .before .before .before .before .before .before .told-frames .ensures) two (sized .ensures) (pre .1) in
+    inside-line windowOf (a .w) (a .block .now) (a .from) (a .out .now) (a .at) (pre .0) (pre .1) (pre .2) (put .result) (sized .result)
+    (rw (part-all (a .block .now) (a .from)) at (put .ensures)) (sized .ensures)
+    (c .before .before .before .before .before .before .before .before .before .if1 .left) _ _ _ (o .line) refl _ _
+    (rw (o .past, o .told, o .good) at (c .before .before .from-start .ensures))
 
 pub from-inside-spec : {M : Type 1} → statement M
 from-inside-spec =

@@ -21,8 +21,9 @@ same-length c = search needs
 
 returns : tie.Need-returns
 returns c =
+    let pre = c .before .before .before .before .before .before .before .before .before .pre in
     let G = c .before .before .before .before .told-frames .ensures in
-    let A = gone-along windowOf _ _ _ _ _ _ _ (c .before .before .before .before .before .before .before .before .before .pre .0) (c .before .before .before .before .before .before .before .before .before .pre .1) (c .before .before .before .before .before .before .before .before .before .pre .2) (c .before .before .before .before .before .before .before .before .before .pre .3) (c .before .before .before .before .before .before .before .before .before .pre .4) _ _ G in
+    let A = gone-along windowOf _ _ _ _ _ _ _ (pre .0) (pre .1) (pre .2) (pre .3) (pre .4) _ _ G in
     let f = G .full (c .before .if1 .taken) in
     rw (c .start .ensures) (along-full windowOf _ _ _ _ _ _ _ _ _ _ _ A (f .0) (omega (arith, f .1, wrote-long (G .text), G .text .inside)))
 
@@ -30,10 +31,20 @@ sub-left : tie.Need-sub-left
 sub-left c = frames-far windowOf _ _ (c .before .before .before .before .before .before .before .before .pre .0) (c .before .before .before .told-frames .ensures .run) .1
 
 sub-cut : tie.Need-sub-cut
-sub-cut c = omega (arith, frames-far windowOf _ _ (c .before .before .before .before .before .before .before .before .pre .0) (c .before .before .before .told-frames .ensures .run) .1)
+sub-cut c =
+    omega (
+      arith,
+      frames-far windowOf _ _ (c .before .before .before .before .before .before .before .before .pre .0)
+          (c .before .before .before .told-frames .ensures .run) .1,
+    )
 
 part-cut-start : tie.Need-part-cut-start
-part-cut-start c = omega (arith, frames-far windowOf _ _ (c .before .before .before .before .before .before .before .before .pre .0) (c .before .before .before .told-frames .ensures .run) .1)
+part-cut-start c =
+    omega (
+      arith,
+      frames-far windowOf _ _ (c .before .before .before .before .before .before .before .before .pre .0)
+          (c .before .before .before .told-frames .ensures .run) .1,
+    )
 
 part-cut-end : tie.Need-part-cut-end
 part-cut-end c = search needs
@@ -49,11 +60,14 @@ same-length-2 c = search needs
 
 returns-2 : tie.Need-returns-2
 returns-2 c =
-    let G = c .before .before .before .before .before .told-frames .ensures in
-    let A = gone-along windowOf _ _ _ _ _ _ _ (c .before .before .before .before .before .before .before .before .before .before .pre .0) (c .before .before .before .before .before .before .before .before .before .before .pre .1) (c .before .before .before .before .before .before .before .before .before .before .pre .2) (c .before .before .before .before .before .before .before .before .before .before .pre .3) (c .before .before .before .before .before .before .before .before .before .before .pre .4) _ _ G in
+    let pre = c .before .before .before .before .before .before .before .before .before .before .pre in
+    let told = c .before .before .before .before .before .told-frames in
+    let G = told .ensures in
+    let A = gone-along windowOf _ _ _ _ _ _ _ (pre .0) (pre .1) (pre .2) (pre .3) (pre .4) _ _ G in
     let f = G .cut (c .before .before .if1 .left) in
-    rw (c .cut .ensures, part-all (c .before .before .before .before .before .before .before .before .before .before .args .block .now) (c .before .before .before .before .before .told-frames .result .at))
-    (along-end windowOf _ _ _ _ _ _ _ _ _ _ _ A (frames-far windowOf _ _ (c .before .before .before .before .before .before .before .before .before .before .pre .0) (G .run) .1) (f .0) (λ l. omega (arith, f .1 l, wrote-long (G .text))))
+    rw
+    (c .cut .ensures, part-all (c .before .before .before .before .before .before .before .before .before .before .args .block .now) (told .result .at))
+    (along-end windowOf _ _ _ _ _ _ _ _ _ _ _ A (frames-far windowOf _ _ (pre .0) (G .run) .1) (f .0) (λ l. omega (arith, f .1 l, wrote-long (G .text))))
 
 pub from-start-spec : {M : Type 1} → statement M
 from-start-spec =

@@ -1,14 +1,13 @@
 -- `lines::told_accepted` meets its contract.
 -- Assumes nothing.
 use Prim.Native.Nat.{_+_, _-_}
-use mathlib.Core.Path.{_≡_, sym, ap, _∙_}
+use mathlib.Core.Path.{sym, ap, _∙_}
 use mathlib.Core.Logic.{inl, inr}
 use Rattle.text.proofs.Laws.{decimal-20, wrote-long}
 use Rattle.walk.specs.Walk.{countOf}
 use Rattle.lines.proofs.Turns.{part-all}
 use Rattle.lines.proofs.Along.{size-here}
 use native.Mathlib.Omega.{arith}
-use lib.ListN.{length}
 use Rattle.reader.specs.Window.{windowOf}
 use Rattle.lines.proofs.Told.{Telling, telling-start, telling-cut, telling-full, telling-refused, telling-more, accepted-size}
 use borrow.Author.Needs.{needs}
@@ -67,16 +66,29 @@ same-length-4 : tie.Need-same-length-4 Inv-loop μ-loop
 same-length-4 c = wrote-long (c .before .before .before .before .before .before .before .loop .inv .text)
 
 returns-4 : tie.Need-returns-4 Inv-loop μ-loop
-returns-4 c = telling-cut windowOf _ _ _ _ _ _ _ _ _ _ (c .before .before .before .before .before .before .before .loop .inv) (inr (inr (rw (← size-here (c .before .before .before .before .before .before .before .before .before .before .before .args .s .now) (c .before .before .before .before .before .before .before .loop .i) (c .before .size-by .result) (omega (arith, c .before .before .before .before .if3 .left)) (c .before .size-by .ensures)) (c .if4 .taken)))) (λ _. c .before .before .before .before .before .if2 .left)
+returns-4 c =
+    let l = c .before .before .before .before .before .before .before .loop in
+    telling-cut windowOf _ _ _ _ _ _ _ _ _ _ (l .inv)
+    (inr (inr (rw (← size-here (c .before .before .before .before .before .before .before .before .before .before .before .args .s .now) (l .i) (c .before .size-by .result) (omega (arith, c .before .before .before .before .if3 .left)) (c .before .size-by .ensures)) (c .if4 .taken))))
+    (λ _. c .before .before .before .before .before .if2 .left)
 
 sub-offset-text : tie.Need-sub-offset-text Inv-loop μ-loop
 sub-offset-text c = omega (arith, c .before .before .before .before .before .before .before .loop .inv .ahead)
 
 add-offset-text : tie.Need-add-offset-text Inv-loop μ-loop
-add-offset-text c = omega (arith, c .before .before .before .before .before .before .before .before .before .before .before .pre .fits, c .before .before .before .before .before .before .if1 .left, c .before .before .before .before .before .before .before .loop .inv .ahead)
+add-offset-text c =
+    omega (
+      arith,
+      c .before .before .before .before .before .before .before .before .before .before .before .pre .fits,
+      c .before .before .before .before .before .before .if1 .left,
+      c .before .before .before .before .before .before .before .loop .inv .ahead,
+    )
 
 offset-text-requires : tie.Need-offset-text-requires Inv-loop μ-loop
-offset-text-requires c κs = (c .before .before .before .before .before .before .before .before .before .before .before .before .pre .digits, omega (arith, c .before .before .before .before .before .before .if2 .left))
+offset-text-requires c κs = (
+  c .before .before .before .before .before .before .before .before .before .before .before .before .pre .digits,
+  omega (arith, c .before .before .before .before .before .before .if2 .left),
+)
 
 sub-judge : tie.Need-sub-judge Inv-loop μ-loop
 sub-judge c = omega (arith, c .before .before .before .before .before .before .before .before .if3 .left)
@@ -100,7 +112,9 @@ stopped-at-requires : tie.Need-stopped-at-requires Inv-loop μ-loop
 stopped-at-requires c κs = search needs
 
 same-length-5 : tie.Need-same-length-5 Inv-loop μ-loop
-same-length-5 c = wrote-long (c .before .before .before .before .before .before .before .offset-text .ensures) ∙ wrote-long (c .before .before .before .before .before .before .before .before .before .before .before .before .before .before .before .before .loop .inv .text)
+same-length-5 c =
+    wrote-long (c .before .before .before .before .before .before .before .offset-text .ensures)
+    ∙ wrote-long (c .before .before .before .before .before .before .before .before .before .before .before .before .before .before .before .before .loop .inv .text)
 
 returns-5 : tie.Need-returns-5 Inv-loop μ-loop
 returns-5 c =
@@ -110,19 +124,49 @@ returns-5 c =
 
 accepted-requires : tie.Need-accepted-requires Inv-loop μ-loop
 accepted-requires c κs =
-    let z = (size-here (c .before .before .before .before .before .before .before .before .before .before .before .before .before .before .before .before .before .before .before .before .before .args .s .now) (c .before .before .before .before .before .before .before .before .before .before .before .before .before .before .before .before .before .loop .i) (c .before .before .before .before .before .before .before .before .before .before .before .size-by .result) (omega (arith, c .before .before .before .before .before .before .before .before .before .before .before .before .before .before .if3 .left)) (c .before .before .before .before .before .before .before .before .before .before .before .size-by .ensures)) in
-    let e = rw (part-all (c .before .before .before .before .before .before .before .before .before .before .before .before .before .before .before .before .before .before .before .before .before .args .s .now) (c .before .before .before .before .before .before .before .before .before .before .before .before .before .before .before .before .before .loop .i)) at (c .before .before .before .before .judge .ensures) in
-    let d = accepted-size _ _ _ (sym e ∙ c .before .before .what .given .1) in
-    (omega (arith, d .0), omega (arith, d .1), c .before .before .before .before .before .before .before .before .before .before .before .before .before .before .before .before .before .before .before .before .before .pre .digits, omega (arith, c .before .before .before .before .before .before .before .before .before .before .before .before .before .before .before .if2 .left, c .before .before .before .before .before .before .before .before .offset-text .ensures .next, wrote-long (c .before .before .before .before .before .before .before .before .offset-text .ensures), decimal-20 (c .before .before .before .before .before .before .before .before .before .before .before .before .before .before .before .before .before .before .before .before .before .args .offset + (c .before .before .before .before .before .before .before .before .before .before .before .before .before .before .before .before .before .loop .i - c .before .before .before .before .before .before .before .before .before .before .before .before .before .before .before .before .before .before .before .before .before .args .from)) (omega (arith, c .before .before .before .before .before .before .before .before .before .before .before .before .before .before .before .before .before .before .before .before .before .pre .fits, c .before .before .before .before .before .before .before .before .before .before .before .before .before .before .before .before .if1 .left, c .before .before .before .before .before .before .before .before .before .before .before .before .before .before .before .before .before .loop .inv .ahead))))
+    let a = c .before .before .before .before .before .before .before .before .before .before .before .before .before .before .before .before .before .before .before .before .before .args in
+    let pre = c .before .before .before .before .before .before .before .before .before .before .before .before .before .before .before .before .before .before .before .before .before .pre in
+    let l = c .before .before .before .before .before .before .before .before .before .before .before .before .before .before .before .before .before .loop in
+    let sized = c .before .before .before .before .before .before .before .before .before .before .before .size-by in
+    let text = c .before .before .before .before .before .before .before .before .offset-text in
+    let z =
+    (size-here (a .s .now) (l .i) (sized .result) (omega (arith, c .before .before .before .before .before .before .before .before .before .before .before .before .before .before .if3 .left)) (sized .ensures)) in
+    let e = rw (part-all (a .s .now) (l .i)) at (c .before .before .before .before .judge .ensures) in
+    let d = accepted-size _ _ _ (sym e ∙ c .before .before .what .given .1) in (
+      omega (arith, d .0),
+      omega (arith, d .1),
+      pre .digits,
+      omega (
+        arith,
+        c .before .before .before .before .before .before .before .before .before .before .before .before .before .before .before .if2 .left,
+        text .ensures .next,
+        wrote-long (text .ensures),
+        decimal-20 (a .offset + (l .i - a .from))
+            (omega (arith, pre .fits, c .before .before .before .before .before .before .before .before .before .before .before .before .before .before .before .before .if1 .left, l .inv .ahead)),
+      ),
+    )
 
 add-i : tie.Need-add-i Inv-loop μ-loop
-add-i c = omega (arith, c .before .before .before .before .before .before .before .before .before .before .before .before .before .if4 .left, c .before .before .before .before .before .before .before .before .before .before .before .before .before .before .before .before .before .before .before .if1 .left)
+add-i c =
+    omega (
+      arith,
+      c .before .before .before .before .before .before .before .before .before .before .before .before .before .if4 .left,
+      c .before .before .before .before .before .before .before .before .before .before .before .before .before .before .before .before .before .before .before .if1 .left,
+    )
 
 add-count : tie.Need-add-count Inv-loop μ-loop
-add-count c = omega (arith, c .before .before .before .before .before .before .before .before .before .before .before .before .before .before .before .before .before .before .before .before .loop .inv .ahead, c .before .before .before .before .before .before .before .before .before .before .before .before .before .before .before .before .before .before .before .before .loop .inv .within)
+add-count c =
+    let l = c .before .before .before .before .before .before .before .before .before .before .before .before .before .before .before .before .before .before .before .before .loop in
+    omega (arith, l .inv .ahead, l .inv .within)
 
 loop-less : tie.Need-loop-less Inv-loop μ-loop
-loop-less c = omega (arith, c .before .before .before .before .before .before .before .before .before .before .before .before .before .if4 .left, c .before .before .before .before .before .before .before .before .before .before .before .before .before .before .before .before .before .before .before .if1 .left, c .before .before .before .before .before .before .before .before .before .before .before .before .before .before .size-by .ensures)
+loop-less c =
+    omega (
+      arith,
+      c .before .before .before .before .before .before .before .before .before .before .before .before .before .if4 .left,
+      c .before .before .before .before .before .before .before .before .before .before .before .before .before .before .before .before .before .before .before .if1 .left,
+      c .before .before .before .before .before .before .before .before .before .before .before .before .before .before .size-by .ensures,
+    )
 
 loop-again : tie.Need-loop-again Inv-loop μ-loop
 loop-again c =

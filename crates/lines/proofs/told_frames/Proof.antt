@@ -1,7 +1,7 @@
 -- `lines::told_frames` meets its contract.
 -- Assumes nothing.
-use Prim.Native.Nat.{_-_}
-use mathlib.Core.Path.{_≡_, _∙_}
+use Prim.Native.Nat.{_+_, _-_, _*_, _^_, _≤_, _<_}
+use mathlib.Core.Path.{_∙_}
 use native.Mathlib.Omega.{arith}
 use Rattle.reader.specs.Window.{windowOf}
 use Rattle.text.proofs.Laws.{wrote-long}
@@ -22,6 +22,24 @@ Inv-loop s have from table out₀ to offset frames accepted i₀ o₀ off₀ fr�
 abbrev μ-loop : tie.MeasureT-loop
 μ-loop s have from table out₀ to offset frames accepted i₀ o₀ off₀ fr₀ acc₀ out i o off fr acc = have - i
 
+-- the accepted frames lie behind one another, two bytes or more each, within the bytes
+moved : (c : tie.After-told-accepted Inv-loop μ-loop)
+    → (c .before .before .loop .i + 2 * c .told-accepted .result .count ≤ c .told-accepted .result .at)
+    × (c .told-accepted .result .at ≤ c .before .before .before .before .before .before .args .have)
+moved c = far windowOf _ _ _ _ _ _ _ _ _ _ _ _ _ _ (c .before .before .loop .inv) _ _ (c .told-accepted .ensures)
+
+-- and so the offset behind them fits 64 bits
+past-fits : (c : tie.After-told-accepted Inv-loop μ-loop)
+    → c .before .before .loop .off + (c .told-accepted .result .at - c .before .before .loop .i) < 2 ^ 64
+past-fits c =
+    omega (
+      arith,
+      moved c,
+      c .before .before .loop .inv .past,
+      c .before .before .loop .inv .ahead,
+      c .before .before .before .before .before .before .pre .0 .fits,
+    )
+
 loop-holds : tie.Need-loop-holds Inv-loop μ-loop
 loop-holds c = passing-start windowOf _ _ _ _ _ _ _ _ (c .before .before .before .pre .0 .begun) (c .before .before .before .pre .0 .inside) (c .before .before .before .pre .1) (c .before .before .before .pre .2)
 
@@ -35,16 +53,16 @@ told-accepted-requires c κs =
     }
 
 sub-past : tie.Need-sub-past Inv-loop μ-loop
-sub-past c = omega (arith, far windowOf _ _ _ _ _ _ _ _ _ _ _ _ _ _ (c .before .before .before .before .loop .inv) _ _ (c .before .before .told-accepted .ensures) .0)
+sub-past c = omega (arith, moved (c .before .before) .0)
 
 add-past : tie.Need-add-past Inv-loop μ-loop
-add-past c = omega (arith, far windowOf _ _ _ _ _ _ _ _ _ _ _ _ _ _ (c .before .before .before .before .loop .inv) _ _ (c .before .before .told-accepted .ensures), c .before .before .before .before .loop .inv .past, c .before .before .before .before .loop .inv .ahead, c .before .before .before .before .before .before .before .before .pre .0 .fits)
+add-past c = omega (arith, moved (c .before .before), c .before .before .before .before .loop .inv .past, c .before .before .before .before .loop .inv .ahead, c .before .before .before .before .before .before .before .before .pre .0 .fits)
 
 add-told : tie.Need-add-told Inv-loop μ-loop
-add-told c = omega (arith, far windowOf _ _ _ _ _ _ _ _ _ _ _ _ _ _ (c .before .before .before .before .before .loop .inv) _ _ (c .before .before .before .told-accepted .ensures), c .before .before .before .before .before .loop .inv .past, c .before .before .before .before .before .loop .inv .ahead, c .before .before .before .before .before .loop .inv .two, c .before .before .before .before .before .before .before .before .before .pre .0 .fits)
+add-told c = omega (arith, moved (c .before .before .before), c .before .before .before .before .before .loop .inv .past, c .before .before .before .before .before .loop .inv .ahead, c .before .before .before .before .before .loop .inv .two, c .before .before .before .before .before .before .before .before .before .pre .0 .fits)
 
 add-good : tie.Need-add-good Inv-loop μ-loop
-add-good c = omega (arith, far windowOf _ _ _ _ _ _ _ _ _ _ _ _ _ _ (c .before .before .before .before .before .before .loop .inv) _ _ (c .before .before .before .before .told-accepted .ensures), c .before .before .before .before .before .before .loop .inv .past, c .before .before .before .before .before .before .loop .inv .ahead, c .before .before .before .before .before .before .loop .inv .two, c .before .before .before .before .before .before .loop .inv .counted, c .before .before .before .before .before .before .before .before .before .before .pre .0 .fits)
+add-good c = omega (arith, moved (c .before .before .before .before), c .before .before .before .before .before .before .loop .inv .past, c .before .before .before .before .before .before .loop .inv .ahead, c .before .before .before .before .before .before .loop .inv .two, c .before .before .before .before .before .before .loop .inv .counted, c .before .before .before .before .before .before .before .before .before .before .pre .0 .fits)
 
 enum-known-why : tie.Need-enum-known-why Inv-loop μ-loop
 enum-known-why c = search needs
@@ -59,27 +77,27 @@ returns : tie.Need-returns Inv-loop μ-loop
 returns c = passing-ends windowOf _ _ _ _ _ _ _ _ _ _ _ _ _ _ (c .before .before .before .before .before .before .before .before .loop .inv) _ _ (c .before .before .before .before .before .before .told-accepted .ensures) _ (c .is-full .ensures) (not-bad (c .before .match .keys2))
 
 refused-requires : tie.Need-refused-requires Inv-loop μ-loop
-refused-requires c κs = halts-bad (c .before .before .before .before .before .before .before .before .told-accepted .ensures) _ _ _ (c .before .before .why .given .1) (omega (arith, far windowOf _ _ _ _ _ _ _ _ _ _ _ _ _ _ (c .before .before .before .before .before .before .before .before .before .before .loop .inv) _ _ (c .before .before .before .before .before .before .before .before .told-accepted .ensures), c .before .before .before .before .before .before .before .before .before .before .loop .inv .past, c .before .before .before .before .before .before .before .before .before .before .loop .inv .ahead, c .before .before .before .before .before .before .before .before .before .before .before .before .before .before .pre .0 .fits)) .0
+refused-requires c κs = halts-bad (c .before .before .before .before .before .before .before .before .told-accepted .ensures) _ _ _ (c .before .before .why .given .1) (past-fits (c .before .before .before .before .before .before .before .before)) .0
 
 add-i : tie.Need-add-i Inv-loop μ-loop
 add-i c =
-    let b = halts-bad (c .before .before .before .before .before .before .before .before .before .before .before .told-accepted .ensures) _ _ _ (c .before .before .before .before .before .why .given .1) (omega (arith, far windowOf _ _ _ _ _ _ _ _ _ _ _ _ _ _ (c .before .before .before .before .before .before .before .before .before .before .before .before .before .loop .inv) _ _ (c .before .before .before .before .before .before .before .before .before .before .before .told-accepted .ensures), c .before .before .before .before .before .before .before .before .before .before .before .before .before .loop .inv .past, c .before .before .before .before .before .before .before .before .before .before .before .before .before .loop .inv .ahead, c .before .before .before .before .before .before .before .before .before .before .before .before .before .before .before .before .before .pre .0 .fits)) in
+    let b = halts-bad (c .before .before .before .before .before .before .before .before .before .before .before .told-accepted .ensures) _ _ _ (c .before .before .before .before .before .why .given .1) (past-fits (c .before .before .before .before .before .before .before .before .before .before .before)) in
     omega (arith, b .1, b .2)
 
 add-off : tie.Need-add-off Inv-loop μ-loop
 add-off c =
-    let b = halts-bad (c .before .before .before .before .before .before .before .before .before .before .before .told-accepted .ensures) _ _ _ (c .before .before .before .before .before .why .given .1) (omega (arith, far windowOf _ _ _ _ _ _ _ _ _ _ _ _ _ _ (c .before .before .before .before .before .before .before .before .before .before .before .before .before .loop .inv) _ _ (c .before .before .before .before .before .before .before .before .before .before .before .told-accepted .ensures), c .before .before .before .before .before .before .before .before .before .before .before .before .before .loop .inv .past, c .before .before .before .before .before .before .before .before .before .before .before .before .before .loop .inv .ahead, c .before .before .before .before .before .before .before .before .before .before .before .before .before .before .before .before .before .pre .0 .fits)) in
-    omega (arith, b .1, b .2, far windowOf _ _ _ _ _ _ _ _ _ _ _ _ _ _ (c .before .before .before .before .before .before .before .before .before .before .before .before .before .loop .inv) _ _ (c .before .before .before .before .before .before .before .before .before .before .before .told-accepted .ensures), c .before .before .before .before .before .before .before .before .before .before .before .before .before .loop .inv .past, c .before .before .before .before .before .before .before .before .before .before .before .before .before .loop .inv .ahead, c .before .before .before .before .before .before .before .before .before .before .before .before .before .before .before .before .before .pre .0 .fits)
+    let b = halts-bad (c .before .before .before .before .before .before .before .before .before .before .before .told-accepted .ensures) _ _ _ (c .before .before .before .before .before .why .given .1) (past-fits (c .before .before .before .before .before .before .before .before .before .before .before)) in
+    omega (arith, b .1, b .2, moved (c .before .before .before .before .before .before .before .before .before .before .before), c .before .before .before .before .before .before .before .before .before .before .before .before .before .loop .inv .past, c .before .before .before .before .before .before .before .before .before .before .before .before .before .loop .inv .ahead, c .before .before .before .before .before .before .before .before .before .before .before .before .before .before .before .before .before .pre .0 .fits)
 
 add-fr : tie.Need-add-fr Inv-loop μ-loop
 add-fr c =
-    let b = halts-bad (c .before .before .before .before .before .before .before .before .before .before .before .told-accepted .ensures) _ _ _ (c .before .before .before .before .before .why .given .1) (omega (arith, far windowOf _ _ _ _ _ _ _ _ _ _ _ _ _ _ (c .before .before .before .before .before .before .before .before .before .before .before .before .before .loop .inv) _ _ (c .before .before .before .before .before .before .before .before .before .before .before .told-accepted .ensures), c .before .before .before .before .before .before .before .before .before .before .before .before .before .loop .inv .past, c .before .before .before .before .before .before .before .before .before .before .before .before .before .loop .inv .ahead, c .before .before .before .before .before .before .before .before .before .before .before .before .before .before .before .before .before .pre .0 .fits)) in
-    omega (arith, b .1, b .2, b .3, far windowOf _ _ _ _ _ _ _ _ _ _ _ _ _ _ (c .before .before .before .before .before .before .before .before .before .before .before .before .before .loop .inv) _ _ (c .before .before .before .before .before .before .before .before .before .before .before .told-accepted .ensures), c .before .before .before .before .before .before .before .before .before .before .before .before .before .loop .inv .past, c .before .before .before .before .before .before .before .before .before .before .before .before .before .loop .inv .ahead, c .before .before .before .before .before .before .before .before .before .before .before .before .before .loop .inv .two, c .before .before .before .before .before .before .before .before .before .before .before .before .before .before .before .before .before .pre .0 .fits)
+    let b = halts-bad (c .before .before .before .before .before .before .before .before .before .before .before .told-accepted .ensures) _ _ _ (c .before .before .before .before .before .why .given .1) (past-fits (c .before .before .before .before .before .before .before .before .before .before .before)) in
+    omega (arith, b .1, b .2, b .3, moved (c .before .before .before .before .before .before .before .before .before .before .before), c .before .before .before .before .before .before .before .before .before .before .before .before .before .loop .inv .past, c .before .before .before .before .before .before .before .before .before .before .before .before .before .loop .inv .ahead, c .before .before .before .before .before .before .before .before .before .before .before .before .before .loop .inv .two, c .before .before .before .before .before .before .before .before .before .before .before .before .before .before .before .before .before .pre .0 .fits)
 
 loop-less : tie.Need-loop-less Inv-loop μ-loop
 loop-less c =
-    let b = halts-bad (c .before .before .before .before .before .before .before .before .before .before .before .told-accepted .ensures) _ _ _ (c .before .before .before .before .before .why .given .1) (omega (arith, far windowOf _ _ _ _ _ _ _ _ _ _ _ _ _ _ (c .before .before .before .before .before .before .before .before .before .before .before .before .before .loop .inv) _ _ (c .before .before .before .before .before .before .before .before .before .before .before .told-accepted .ensures), c .before .before .before .before .before .before .before .before .before .before .before .before .before .loop .inv .past, c .before .before .before .before .before .before .before .before .before .before .before .before .before .loop .inv .ahead, c .before .before .before .before .before .before .before .before .before .before .before .before .before .before .before .before .before .pre .0 .fits)) in
-    omega (arith, b .1, b .2, b .3, far windowOf _ _ _ _ _ _ _ _ _ _ _ _ _ _ (c .before .before .before .before .before .before .before .before .before .before .before .before .before .loop .inv) _ _ (c .before .before .before .before .before .before .before .before .before .before .before .told-accepted .ensures), c .before .before .before .before .before .before .before .before .before .before .before .before .before .loop .inv .within)
+    let b = halts-bad (c .before .before .before .before .before .before .before .before .before .before .before .told-accepted .ensures) _ _ _ (c .before .before .before .before .before .why .given .1) (past-fits (c .before .before .before .before .before .before .before .before .before .before .before)) in
+    omega (arith, b .1, b .2, b .3, moved (c .before .before .before .before .before .before .before .before .before .before .before), c .before .before .before .before .before .before .before .before .before .before .before .before .before .loop .inv .within)
 
 loop-again : tie.Need-loop-again Inv-loop μ-loop
 loop-again c = passing-on windowOf _ _ _ _ _ _ _ _ _ _ _ _ _ _ (c .before .before .before .before .before .before .before .before .before .before .before .before .before .loop .inv) _ _ (c .before .before .before .before .before .before .before .before .before .before .before .told-accepted .ensures) _ _ _ (c .before .before .before .before .before .why .given .1) _ _ (c .before .before .refused .ensures)

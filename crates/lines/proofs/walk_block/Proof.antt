@@ -8,7 +8,7 @@ use lib.ListN.{length, drop, length-drop}
 use Rattle.reader.specs.Window.{windowOf}
 use Rattle.walk.specs.Walk.{readyOf, stepOf}
 use Rattle.lines.specs.Whole.{pairs, pairsFrom}
-use Rattle.lines.proofs.Turns.{going-start, going-used, going-full, going-refused, called-used, called-full}
+use Rattle.lines.proofs.Turns.{going-start, going-refused, called-used, called-full}
 use Rattle.lines.proofs.Starts.{ready-all, ready-refused, start-of}
 use borrow.Author.Needs.{needs}
 use Rattle.lines.proofs.walk_block.Statement.{statement}
@@ -19,16 +19,22 @@ held-long : (c : tie.After-slice-known) → length (c .before .before .args .w .
 held-long c = search needs
 
 returns : tie.Need-returns
-returns c = called-used windowOf (c .before .before .before .args .w) (c .before .before .before .args .block .now) (c .before .before .before .args .from) (c .before .before .before .args .out .now) (c .before .before .before .args .at) (c .if1 .taken)
+returns c =
+    let a = c .before .before .before .args in
+    called-used windowOf (a .w) (a .block .now) (a .from) (a .out .now) (a .at) (c .if1 .taken)
 
 returns-2 : tie.Need-returns-2
-returns-2 c = called-full windowOf (c .before .before .before .before .args .w) (c .before .before .before .before .args .block .now) (c .before .before .before .before .args .from) (c .before .before .before .before .args .out .now) (c .before .before .before .before .args .at) (c .before .if1 .left) (omega (arith, c .if2 .taken))
+returns-2 c =
+    let a = c .before .before .before .before .args in
+    called-full windowOf (a .w) (a .block .now) (a .from) (a .out .now) (a .at) (c .before .if1 .left) (omega (arith, c .if2 .taken))
 
 sub-if3 : tie.Need-sub-if3
 sub-if3 c = search needs
 
 returns-3 : tie.Need-returns-3
-returns-3 c = called-full windowOf (c .before .before .before .before .before .args .w) (c .before .before .before .before .before .args .block .now) (c .before .before .before .before .before .args .from) (c .before .before .before .before .before .args .out .now) (c .before .before .before .before .before .args .at) (c .before .before .if1 .left) (c .if3 .taken)
+returns-3 c =
+    let a = c .before .before .before .before .before .args in
+    called-full windowOf (a .w) (a .block .now) (a .from) (a .out .now) (a .at) (c .before .before .if1 .left) (c .if3 .taken)
 
 sub-left : tie.Need-sub-left
 sub-left c = search needs
@@ -38,8 +44,12 @@ ready-requires c κs = search needs
 
 returns-4 : tie.Need-returns-4
 returns-4 c =
-    going-refused windowOf _ _ _ _ _ _ _ _ _ (going-start windowOf (c .before .before .before .before .before .before .before .args .block .now) (c .before .before .before .before .before .before .before .args .from) (c .before .before .before .before .before .before .before .args .out .now) (c .before .before .before .before .before .before .before .args .at) (c .before .before .before .before .before .before .before .args .w) (omega (arith, c .before .before .before .before .if1 .left)) (omega (arith, c .before .before .before .if2 .left))) (stepOf windowOf (c .before .before .before .before .before .before .before .args .w) (drop (c .before .before .before .before .before .before .before .args .from) (c .before .before .before .before .before .before .before .args .block .now))) (c .before .before .before .before .if1 .left) (c .before .before .if3 .left) refl
-    (ready-refused windowOf (c .before .before .before .before .before .before .before .args .w) (drop (c .before .before .before .before .before .before .before .args .from) (c .before .before .before .before .before .before .before .args .block .now)) (ap (readyOf (c .before .before .before .before .before .before .before .args .w)) (length-drop (c .before .before .before .before .before .before .before .args .from) (c .before .before .before .before .before .before .before .args .block .now)) ∙ sym (c .before .ready .ensures) ∙ not-true _ (c .if4 .taken)))
+    let a = c .before .before .before .before .before .before .before .args in
+    let i = c .before .before .before .before .if1 in
+    going-refused windowOf _ _ _ _ _ _ _ _ _
+    (going-start windowOf (a .block .now) (a .from) (a .out .now) (a .at) (a .w) (omega (arith, i .left)) (omega (arith, c .before .before .before .if2 .left)))
+    (stepOf windowOf (a .w) (drop (a .from) (a .block .now))) (i .left) (c .before .before .if3 .left) refl
+    (ready-refused windowOf (a .w) (drop (a .from) (a .block .now)) (ap (readyOf (a .w)) (length-drop (a .from) (a .block .now)) ∙ sym (c .before .ready .ensures) ∙ not-true _ (c .if4 .taken)))
 
 slice-aggregate-from-start : tie.Need-slice-aggregate-from-start
 slice-aggregate-from-start c = search needs
@@ -47,23 +57,43 @@ slice-aggregate-from-start c = search needs
 from-start-requires : tie.Need-from-start-requires
 unfolding pairs pairsFrom
 from-start-requires c κs =
-    let r = ready-all (c .before .before .before .before .before .before .before .before .before .before .before .args .w) (length (c .before .before .before .before .before .before .before .before .before .before .before .args .block .now) - c .before .before .before .before .before .before .before .before .before .before .before .args .from) (sym (c .before .before .before .before .before .ready .ensures) ∙ not-false _ (c .before .before .before .before .if4 .left)) in
-    (omega (arith, c .before .before .before .before .before .before .before .before .if1 .left), omega (arith, c .before .before .before .before .before .before .before .if2 .left), omega (arith, r .room), r .two, r .counted, refl)
+    let a = c .before .before .before .before .before .before .before .before .before .before .before .args in
+    let r = ready-all (a .w) (length (a .block .now) - a .from)
+    (sym (c .before .before .before .before .before .ready .ensures) ∙ not-false _ (c .before .before .before .before .if4 .left)) in (
+      omega (arith, c .before .before .before .before .before .before .before .before .if1 .left),
+      omega (arith, c .before .before .before .before .before .before .before .if2 .left),
+      omega (arith, r .room),
+      r .two,
+      r .counted,
+      refl,
+    )
 
 same-length : tie.Need-same-length
 same-length c = search needs
 
 returns-5 : tie.Need-returns-5
 returns-5 c =
+    let a = c .before .before .before .before .before .before .before .before .before .before .before .before .before .before .args in
     let l = held-long (c .before .before .before .before .before .before .before .before .before .before .before .before) in
-    rw (start-of (c .before .before .before .before .before .before .before .before .before .before .before .before .before .before .args .w) (length (c .before .before .before .before .before .before .before .before .before .before .before .before .before .before .args .block .now) - c .before .before .before .before .before .before .before .before .before .before .before .before .before .before .args .from) l (sym (c .before .before .before .before .before .before .before .before .ready .ensures) ∙ not-false _ (c .before .before .before .before .before .before .before .if4 .left)) (c .before .before .before .before .before .if5 .taken)) at (c .before .before .from-start .ensures)
+    rw
+    (start-of (a .w) (length (a .block .now) - a .from) l (sym (c .before .before .before .before .before .before .before .before .ready .ensures) ∙ not-false _ (c .before .before .before .before .before .before .before .if4 .left)) (c .before .before .before .before .before .if5 .taken))
+    at (c .before .before .from-start .ensures)
 
 slice-aggregate-from-inside : tie.Need-slice-aggregate-from-inside
 slice-aggregate-from-inside c = search needs
 
 from-inside-requires : tie.Need-from-inside-requires
 unfolding pairs pairsFrom
-from-inside-requires c κs = (c .before .before .before .before .before .before .before .before .if1 .left, omega (arith, c .before .before .before .before .before .before .before .if2 .left, c .before .before .before .before .before .before .if3 .left), sym (c .before .before .before .before .before .ready .ensures) ∙ not-false _ (c .before .before .before .before .if4 .left), refl)
+from-inside-requires c κs = (
+  c .before .before .before .before .before .before .before .before .if1 .left,
+  omega (
+    arith,
+    c .before .before .before .before .before .before .before .if2 .left,
+    c .before .before .before .before .before .before .if3 .left,
+  ),
+  sym (c .before .before .before .before .before .ready .ensures) ∙ not-false _ (c .before .before .before .before .if4 .left),
+  refl,
+)
 
 same-length-2 : tie.Need-same-length-2
 same-length-2 c = search needs

@@ -21,15 +21,22 @@ same-length c = search needs
 
 returns : tie.Need-returns
 returns c =
+    let a = c .before .before .before .before .before .before .before .before .before .before .before .before .before .before .args in
     let tag = c .before .before .before .before .before .before .before .before .before .before .byte .ensures .fits (omega arith) in
     let gap = c .before .before .before .before .before .before .byte2 .ensures .fits (omega (arith, tag .next)) in
     let count = c .before .before .number .ensures .fits (omega (arith, tag .next, gap .next)) in (
-      wrote-as (line-some (c .before .before .before .before .before .before .before .before .before .before .before .before .before .before .args .tag) (c .before .before .before .before .before .before .before .before .before .before .before .before .before .before .args .n) (c .before .before .before .before .before .before .before .before .before .before .before .before .if1 .taken)) (wrote-append tag (wrote-append gap count)),
-      omega (arith, tag .next, gap .next, count .next, behind-long (c .before .before .before .before .before .before .before .before .before .before .before .before .before .before .args .n) 10 (search needs)),
+      wrote-as
+          (line-some (a .tag) (a .n) (c .before .before .before .before .before .before .before .before .before .before .before .before .if1 .taken))
+          (wrote-append tag (wrote-append gap count)),
+      omega (arith, tag .next, gap .next, count .next, behind-long (a .n) 10 (search needs)),
     )
 
 returns-2 : tie.Need-returns-2
-returns-2 c = (wrote-as (line-none (c .before .before .args .tag) (c .before .before .args .n) (c .if1 .left)) (wrote-none (c .before .before .args .out .now) (c .before .before .args .at) (omega arith)), omega arith)
+returns-2 c = (
+  wrote-as (line-none (c .before .before .args .tag) (c .before .before .args .n) (c .if1 .left))
+      (wrote-none (c .before .before .args .out .now) (c .before .before .args .at) (omega arith)),
+  omega arith,
+)
 
 pub line-spec : {M : Type 1} → statement M
 line-spec =

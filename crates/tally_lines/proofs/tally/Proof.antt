@@ -13,8 +13,9 @@ returns c = puts-full (omega arith)
 
 returns-2 : tie.Need-returns-2
 returns-2 c =
-    let none = printed-none (c .before .before .before .before .args .count .now) (c .before .before .before .before .args .messages) (c .before .before .before .before .args .answer) (c .if2 .taken) in
-    puts-fits (omega arith) (wrote-as none (wrote-none (c .before .before .before .before .args .out .now) 0 (omega arith)))
+    let a = c .before .before .before .before .args in
+    let none = printed-none (a .count .now) (a .messages) (a .answer) (c .if2 .taken) in
+    puts-fits (omega arith) (wrote-as none (wrote-none (a .out .now) 0 (omega arith)))
 
 number-of-requires : tie.Need-number-of-requires
 number-of-requires c κs = search needs
@@ -37,8 +38,11 @@ same-length c = search needs
 returns-3 : tie.Need-returns-3
 unfolding tallyOf
 returns-3 c =
-    let all = printed-all (c .before .before .before .before .before .before .before .before .before .before .before .before .before .before .before .before .before .before .args .count .now) (c .before .before .before .before .before .before .before .before .before .before .before .before .before .before .before .before .before .before .args .messages) (c .before .before .before .before .before .before .before .before .before .before .before .before .before .before .before .before .before .before .args .answer) (c .before .before .before .before .before .before .before .before .before .before .before .before .before .before .if2 .left) in
-    puts-fits (omega arith) (wrote-as all (wrote-append (c .before .before .before .before .before .before .before .before .before .before .lines .ensures .0) (wrote-append (c .before .before .before .before .before .before .messages-line .ensures .0) (rw (← c .before .before .before .before .before .before .before .before .before .before .before .before .before .number-of .ensures, ← c .before .before .before .before .before .before .before .before .before .before .before .before .place-of .ensures) (c .before .before .stopped-line .ensures)))))
+    let a = c .before .before .before .before .before .before .before .before .before .before .before .before .before .before .before .before .before .before .args in
+    let all = printed-all (a .count .now) (a .messages) (a .answer)
+    (c .before .before .before .before .before .before .before .before .before .before .before .before .before .before .if2 .left) in
+    puts-fits (omega arith)
+    (wrote-as all (wrote-append (c .before .before .before .before .before .before .before .before .before .before .lines .ensures .0) (wrote-append (c .before .before .before .before .before .before .messages-line .ensures .0) (rw (← c .before .before .before .before .before .before .before .before .before .before .before .before .before .number-of .ensures, ← c .before .before .before .before .before .before .before .before .before .before .before .before .place-of .ensures) (c .before .before .stopped-line .ensures)))))
 
 pub tally-spec : {M : Type 1} → statement M
 tally-spec =
