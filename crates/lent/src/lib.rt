@@ -111,6 +111,7 @@ pub fn told_failed(s: &mut Stream) -> Answer
     step.answer
 }
 
+// How far the slice was played, and the answer.
 pub struct Reach {
     pub at: usize,
     pub answer: Answer,

@@ -7,8 +7,8 @@ use native.Mathlib.Omega.{arith}
 use lib.ListN.{length, take, drop, length-drop, drop-of-length-le}
 use lib.Seq.{take-all}
 
--- What a callee that was lent `&mut b[e..]` says of the part, said of the whole: ys is the part's last list, f what the callee makes of the part.
--- The first list is what the buffer is after the loan, as the borrow checker has it; the part that is lent is `take (length b - e) (drop e b)`.
+-- The part is lent as `&mut b[e..]`, which is `take (length b - e) (drop e b)`: ys is its last list, f what the callee makes of it. The first list is
+-- what the buffer is after the loan, as the borrow checker has it.
 pub handed-on : (b ys : List ℕ) (e : ℕ) (f : List ℕ → List ℕ) → ys ≡ f (take (length b - e) (drop e b))
     → take e b ++ (ys ++ drop (length b - e) (drop e b)) ≡ take e b ++ f (drop e b)
 handed-on b ys e f h =

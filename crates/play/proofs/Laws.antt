@@ -56,7 +56,12 @@ same-ready g h s (Refused n p) b at f = refl
 abbrev Agree : List ℕ → ℕ → Goes → Goes → Type 0
 Agree src at g h = (s : Stream) (b : List ℕ) (n : ℕ) → at < n → n ≤ length src → g s b n ≡ h s b n
 
-same-feed : (src : List ℕ) (w : ℕ) (g h : Goes) (s : Stream) (b : List ℕ) (at : ℕ) → at ≤ length src → Agree src at g h → feedBy src w g s b at ≡ feedBy src w h s b at
+-- and so what leads to them
+abbrev Same : (List ℕ → ℕ → Goes → Goes) → Type 0
+Same by =
+    (src : List ℕ) (w : ℕ) (g h : Goes) (s : Stream) (b : List ℕ) (at : ℕ) → at ≤ length src → Agree src at g h → by src w g s b at ≡ by src w h s b at
+
+same-feed : Same feedBy
 unfolding feedBy
 same-feed src w g h s b at le same =
     let k = pieceOf (length b - s .end) (length src - at) w in
@@ -68,22 +73,25 @@ same-feed src w g h s b at le same =
     fits : (k : ℕ) → k ≤ length src - at → at + k ≤ length src
     fits k h = omega arith
 
-same-fetch : (src : List ℕ) (w : ℕ) (g h : Goes) (s : Stream) (b : List ℕ) (at : ℕ) → at ≤ length src → Agree src at g h → fetchBy src w g s b at ≡ fetchBy src w h s b at
+same-fetch : Same fetchBy
 unfolding fetchBy
 same-fetch src w g h s b at le same =
-    same-ready (feedBy src w g) (feedBy src w h) (roomOf s (length b) .state) (roomOf s (length b) .answer) (roomBuffer s b) at (λ _. same-feed src w g h (roomOf s (length b) .state) (roomBuffer s b) at le same)
+    let r = roomOf s (length b) in
+    same-ready (feedBy src w g) (feedBy src w h) (r .state) (r .answer) (roomBuffer s b) at (λ _. same-feed src w g h (r .state) (roomBuffer s b) at le same)
 
-same-try : (src : List ℕ) (w : ℕ) (g h : Goes) (s : Stream) (b : List ℕ) (at : ℕ) → at ≤ length src → Agree src at g h → tryBy src w g s b at ≡ tryBy src w h s b at
+same-try : Same tryBy
 unfolding tryBy
 same-try src w g h s b at le same =
     same-wants (fetchBy src w g) (fetchBy src w h) (nextOf s b .state) (nextOf s b .answer) b at (λ _. same-fetch src w g h (nextOf s b .state) b at le same)
 
 -- tries beyond the unread bytes change nothing
-agree : (src : List ℕ) (w f g : ℕ) (s : Stream) (b : List ℕ) (at : ℕ) → at ≤ length src → length src - at < f → length src - at < g → tries src w f s b at ≡ tries src w g s b at
+agree : (src : List ℕ) (w f g : ℕ) (s : Stream) (b : List ℕ) (at : ℕ) → at ≤ length src → length src - at < f → length src - at < g
+    → tries src w f s b at ≡ tries src w g s b at
 unfolding tries
 agree src w zero g s b at le hf hg = absurd (let x : ⊥ = omega arith in x)
 agree src w (suc f) zero s b at le hf hg = absurd (let x : ⊥ = omega arith in x)
-agree src w (suc f) (suc g) s b at le hf hg = same-try src w (tries src w f) (tries src w g) s b at le (λ s′ b′ n lt le′. agree src w f g s′ b′ n le′ (omega arith) (omega arith))
+agree src w (suc f) (suc g) s b at le hf hg =
+    same-try src w (tries src w f) (tries src w g) s b at le (λ s′ b′ n lt le′. agree src w f g s′ b′ n le′ (omega arith) (omega arith))
 
 -- a try further on is a try with as many tries left as there are unread bytes
 pub enough : (src : List ℕ) (w f : ℕ) (s : Stream) (b : List ℕ) (at : ℕ) → at ≤ length src → length src - at < f → tries src w f s b at ≡ tryOf src w s b at
@@ -106,13 +114,15 @@ module _ (src : List ℕ) (w : ℕ) (s : Stream) (b : List ℕ) (at : ℕ) where
   unfolding fetchOf
   try-goes r e h = sym (goes-wants (fetchBy src w left) (r .state) b at h) ∙ tried r e
 
-  roomed : (r : Step) (b₁ : List ℕ) → r ≡ roomOf s (length b) → b₁ ≡ roomBuffer s b → onReady (feedBy src w left) (r .state) (r .answer) b₁ at ≡ fetchOf src w s b at
+  roomed : (r : Step) (b₁ : List ℕ) → r ≡ roomOf s (length b) → b₁ ≡ roomBuffer s b
+      → onReady (feedBy src w left) (r .state) (r .answer) b₁ at ≡ fetchOf src w s b at
   unfolding fetchOf fetchBy
   roomed r b₁ e f =
       ap (λ (l : List ℕ). onReady (feedBy src w left) (r .state) (r .answer) l at) f
       ∙ ap (λ (x : Step). onReady (feedBy src w left) (x .state) (x .answer) (roomBuffer s b) at) e
 
-  pub room-halts : (r : Step) (b₁ : List ℕ) → r ≡ roomOf s (length b) → b₁ ≡ roomBuffer s b → (r .answer ≡ Ready → ⊥) → halt (r .state) (r .answer) b₁ at ≡ fetchOf src w s b at
+  pub room-halts : (r : Step) (b₁ : List ℕ) → r ≡ roomOf s (length b) → b₁ ≡ roomBuffer s b → (r .answer ≡ Ready → ⊥)
+      → halt (r .state) (r .answer) b₁ at ≡ fetchOf src w s b at
   room-halts r b₁ e f no-room = sym (halts-ready (feedBy src w left) (r .state) (r .answer) b₁ at no-room) ∙ roomed r b₁ e f
 
   module _ (r : Step) (b₁ : List ℕ) (er : r ≡ roomOf s (length b)) (eb : b₁ ≡ roomBuffer s b) (ready : r .answer ≡ Ready)

@@ -7,6 +7,7 @@ ghost use Rattle.play.specs.Play.{pieceOf, filled, tryOf, fetchOf, playO
 use stream::Answer;
 use stream::Stream;
 
+// What a call leaves: the state, the position in the slice, and the answer.
 pub struct Played {
     pub state: Stream,
     pub at: usize,
@@ -92,6 +93,7 @@ fn fetch(s: Stream, buf: &mut [u8], src: &[u8], at: usize, width: usize) -> Play
     try_window(fed, buf, src, next, width)
 }
 
+// A refusal before the window is tried: the state and the position stay.
 fn stopped(s: Stream, at: usize, number: u8) -> Played
     ensures { λ r. ⌜ r ≡ record { state = s; at = at; answer = Answer.Refused number 0 } ⌝ }
 {

@@ -49,7 +49,8 @@ pub data NoNext (s : Stream) (b : List ℕ) : ℕ → Type 0 where
 
 pub data Next (s : Stream) (b : List ℕ) : Step → Type 0 where
   no-next : {n : ℕ} → NoNext s b n → Next s b (refuses s n)
-  message : Sound s → length b ≡ 8192 → (m : Record) (n : ℕ) → windowOf (windowAt s b) ≡ Accepted m n → (s .messages ≡ 18446744073709551615 → ⊥) → Next s b (taken s m n)
+  message : Sound s → length b ≡ 8192 → (m : Record) (n : ℕ) → windowOf (windowAt s b) ≡ Accepted m n → (s .messages ≡ 18446744073709551615 → ⊥)
+      → Next s b (taken s m n)
   wants : Sound s → length b ≡ 8192 → windowOf (windowAt s b) ≡ Incomplete → Next s b (record { state = s; answer = Wants })
   marked-next : Sound s → length b ≡ 8192 → (n p : ℕ) → windowOf (windowAt s b) ≡ Bad n p → Next s b (marks s n p)
 

@@ -34,6 +34,7 @@ fn lines(count: &[u64], out: &mut [u8]) -> usize
     at
 }
 
+// The line of all messages.
 fn messages_line(messages: u64, out: &mut [u8], at: usize) -> usize
     requires { ⌜ at + 30 ≤ length (now out) ⌝ }
     ensures { λ r. ⌜ Wrote (messagesOf messages) (now (out .entry)) at (now (out .exit)) r × (r ≤ at + 30) ⌝ }
@@ -44,6 +45,7 @@ fn messages_line(messages: u64, out: &mut [u8], at: usize) -> usize
     text::number(messages, b'\n', out, c)
 }
 
+// The line of where the stream stopped.
 fn stopped_line(stop: u8, place: usize, out: &mut [u8], at: usize) -> usize
     requires { ⌜ at + 50 ≤ length (now out) ⌝ }
     ensures { λ r. ⌜ Wrote (stoppedOf stop place) (now (out .entry)) at (now (out .exit)) r ⌝ }
@@ -54,6 +56,7 @@ fn stopped_line(stop: u8, place: usize, out: &mut [u8], at: usize) -> usize
     text::number(place as u64, b'\n', out, c)
 }
 
+// The number of a refusal, and its place; 0 of any other answer.
 fn number_of(answer: Answer) -> u8
     ensures { λ r. ⌜ r ≡ numberOf answer ⌝ }
 {

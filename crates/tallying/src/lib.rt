@@ -52,6 +52,7 @@ fn read_some(s: Stream, buf: &mut [u8]) -> Step
     stream::told_of(state, n)
 }
 
+// Drains the window and reads, to the first answer that stops.
 fn run(count: &mut [u64]) -> Step
     requires { ⌜ Counters (now count) 0 ⌝ }
     ensures { λ r. ⌜ Counters (now (count .exit)) (r .state .messages) × (stops (r .answer) ≡ true) ⌝ }
