@@ -55,11 +55,14 @@ pub digits-low : (b v : ℕ) → digits b (v % 256 ^ b) ≡ digits b v
 unfolding digits
 digits-low b v = two-parts 0 b v ∙ ap (λ n. digits n v) (zero-add b)
 
--- two stores of parts are the store of the number
-pub joins : (l : List ℕ) (at a b v : ℕ) → sets (sets l at (digits a (v / 256 ^ b))) (at + a) (digits b (v % 256 ^ b)) ≡ sets l at (digits (a + b) v)
-joins l at a b v =
-    ap (λ n. sets (sets l at (digits a (v / 256 ^ b))) (at + n) (digits b (v % 256 ^ b))) (sym (length-digits a (v / 256 ^ b)))
-    ∙ sym (sets-append l at (digits a (v / 256 ^ b)) (digits b (v % 256 ^ b))) ∙ ap (sets l at) (two-parts a b v)
+-- the first a bytes of a number stored, then its last b behind them: the number stored
+pub joins : (l : List ℕ) (at a b v : ℕ) {m u : List ℕ} → m ≡ sets l at (digits a (v / 256 ^ b)) → u ≡ sets m (at + a) (digits b (v % 256 ^ b))
+    → u ≡ sets l at (digits (a + b) v)
+joins l at a b v e f =
+    let x : List ℕ = digits a (v / 256 ^ b) in
+    let y : List ℕ = digits b (v % 256 ^ b) in
+    f ∙ ap (λ r. sets r (at + a) y) e ∙ ap (λ n. sets (sets l at x) (at + n) y) (sym (length-digits a (v / 256 ^ b)))
+    ∙ sym (sets-append l at x y) ∙ ap (sets l at) (two-parts a b v)
 
 -- bytes that fit are put, others not
 pub put-fits : (s : List ℕ) (at w v : ℕ) → at + w ≤ length s → putIn s at (digits w v) ≡ sets s at (digits w v)

@@ -13,25 +13,30 @@ use Rattle.format.specs.Layout.{Kind, width, widths}
 use Rattle.pen.specs.Encode.{digits, valueOf, rest, write, putIn, putRow, layout, PutRow, PutBody}
 use Rattle.pen.proofs.Digits.{length-digits, sets-append, put-fits}
 
--- each field put at its place: the value itself, or a number that equals it
+-- each field put at its place, as a number that equals its value
 pub data Puts : List ℕ → ℕ → List Kind → List ℕ → List ℕ → Type 0 where
   end : {s vs : List ℕ} {at : ℕ} → Puts s at [] vs s
-  _⨾_ : {s t u : List ℕ} {k : Kind} {ks : List Kind} {at : ℕ} {vs : List ℕ}
-      → (t ≡ putIn s at (digits (width k) (valueOf k vs))) × (valueOf k vs < 256 ^ width k) → Puts t (at + width k) ks (rest k vs) u → Puts s at (k ∷ ks) vs u
   _by_⨾_ : {s t u : List ℕ} {k : Kind} {ks : List Kind} {at x : ℕ} {vs : List ℕ}
       → (t ≡ putIn s at (digits (width k) x)) × (x < 256 ^ width k) → x ≡ valueOf k vs → Puts t (at + width k) ks (rest k vs) u → Puts s at (k ∷ ks) vs u
 
 infixr 30 _⨾_ _by_⨾_
+-- the same, as the value itself
+pub _⨾_ : {s t u : List ℕ} {k : Kind} {ks : List Kind} {at : ℕ} {vs : List ℕ}
+    → (t ≡ putIn s at (digits (width k) (valueOf k vs))) × (valueOf k vs < 256 ^ width k) → Puts t (at + width k) ks (rest k vs) u → Puts s at (k ∷ ks) vs u
+_⨾_ e r = e by refl ⨾ r
+
+-- so the row is put
 pub puts : (s : List ℕ) (at : ℕ) (ks : List Kind) (vs : List ℕ) {u : List ℕ} → Puts s at ks vs u → PutRow s at ks vs u
 puts s at [] vs end = (refl, tt)
-puts s at (k ∷ ks) vs (_⨾_ {t = t} e r) =
-    let g = puts t (at + width k) ks (rest k vs) r in
-    (g .0 ∙ ap (λ l. putRow l (at + width k) ks (rest k vs)) (e .0), (e .1, g .1))
 puts s at (k ∷ ks) vs (_by_⨾_ {t = t} e q r) =
     let g = puts t (at + width k) ks (rest k vs) r in (
       g .0 ∙ ap (λ l. putRow l (at + width k) ks (rest k vs)) (e .0 ∙ ap (λ n. putIn s at (digits (width k) n)) q),
       (subst (λ n. n < 256 ^ width k) q (e .1), g .1),
     )
+
+-- and so is a body, whose values begin with its tag
+pub body-puts : (s vs : List ℕ) {u : List ℕ} → Puts s 13 (layout (getD vs 0 0)) (drop 1 vs) u → PutBody s vs u
+body-puts s vs r = puts s 13 (layout (getD vs 0 0)) (drop 1 vs) r
 
 pub length-write : (ks : List Kind) (vs : List ℕ) → length (write ks vs) ≡ widths ks
 length-write [] vs = refl
@@ -53,11 +58,7 @@ row-fits s at (k ∷ ks) vs h =
     ∙ ap (λ n. sets (sets s at d) n (write ks (rest k vs))) (sym w)
     ∙ sym (sets-append s at d (write ks (rest k vs)))
 
--- the same of a body's values, which begin with its tag
-pub body-puts : (s vs : List ℕ) {u : List ℕ} → Puts s 13 (layout (getD vs 0 0)) (drop 1 vs) u → PutBody s vs u
-body-puts s vs r = puts s 13 (layout (getD vs 0 0)) (drop 1 vs) r
-
--- a row that is put leaves the buffer's length
+-- what is put leaves the buffer's length
 length-put : (s : List ℕ) (at : ℕ) (d : List ℕ) → length (putIn s at d) ≡ length s
 unfolding putIn
 length-put s at d = go (leb (at + length d) (length s))

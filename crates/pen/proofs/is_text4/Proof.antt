@@ -28,10 +28,14 @@ enum-told-2 : tie.Need-enum-told-2
 enum-told-2 c = search needs
 
 returns : tie.Need-returns
-returns c = text-yes 4 (c .before .before .before .before .before .before .before .args .v) (replicate 4 0) refl (c .before .before .before .before .before .put4 .ensures) (value num32M (c .before .before .text4 .ensures) (c .enum-told .given .1))
+returns c =
+    text-yes 4 (c .before .before .before .before .before .before .before .args .v) (replicate 4 0) refl (c .before .before .before .before .before .put4 .ensures)
+    (value num32M (c .before .before .text4 .ensures) (c .enum-told .given .1))
 
 returns-2 : tie.Need-returns-2
-returns-2 c = text-no 4 (c .before .before .before .before .before .before .before .args .v) (replicate 4 0) (c .enum-told2 .given .0 .0) refl (c .before .before .before .before .before .put4 .ensures) (value num32M (c .before .before .text4 .ensures) (c .enum-told2 .given .1))
+returns-2 c =
+    text-no 4 (c .before .before .before .before .before .before .before .args .v) (replicate 4 0) (c .enum-told2 .given .0 .0) refl (c .before .before .before .before .before .put4 .ensures)
+    (value num32M (c .before .before .text4 .ensures) (c .enum-told2 .given .1))
 
 pub is-text4-spec : {M : Type 1} → statement M
 is-text4-spec =

@@ -28,10 +28,14 @@ enum-told-2 : tie.Need-enum-told-2
 enum-told-2 c = search needs
 
 returns : tie.Need-returns
-returns c = text-yes 8 (c .before .before .before .before .before .before .before .args .v) (replicate 8 0) refl (c .before .before .before .before .before .put8 .ensures) (value num64M (c .before .before .text8 .ensures) (c .enum-told .given .1))
+returns c =
+    text-yes 8 (c .before .before .before .before .before .before .before .args .v) (replicate 8 0) refl (c .before .before .before .before .before .put8 .ensures)
+    (value num64M (c .before .before .text8 .ensures) (c .enum-told .given .1))
 
 returns-2 : tie.Need-returns-2
-returns-2 c = text-no 8 (c .before .before .before .before .before .before .before .args .v) (replicate 8 0) (c .enum-told2 .given .0 .0) refl (c .before .before .before .before .before .put8 .ensures) (value num64M (c .before .before .text8 .ensures) (c .enum-told2 .given .1))
+returns-2 c =
+    text-no 8 (c .before .before .before .before .before .before .before .args .v) (replicate 8 0) (c .enum-told2 .given .0 .0) refl (c .before .before .before .before .before .put8 .ensures)
+    (value num64M (c .before .before .text8 .ensures) (c .enum-told2 .given .1))
 
 pub is-text8-spec : {M : Type 1} → statement M
 is-text8-spec =

@@ -1,10 +1,6 @@
 -- `pen::put4` meets its contract.
 -- Assumes nothing.
 use denote.Ref.{now}
-use mathlib.Core.Path.{ap, _∙_}
-use Prim.Native.Nat.{_+_, _%_, _^_}
-use lib.Seq.{sets}
-use Rattle.pen.specs.Encode.{digits}
 use Rattle.pen.proofs.Digits.{joins}
 use borrow.Author.Needs.{needs}
 use Rattle.pen.proofs.put4.Statement.{statement}
@@ -30,9 +26,8 @@ same-length c = search needs
 
 returns : tie.Need-returns
 returns c =
-    c .before .before .put22 .ensures
-    ∙ ap (λ l. sets l (c .before .before .before .before .before .before .before .before .before .args .at + 2) (digits 2 (c .before .before .before .before .before .before .before .before .before .args .v % 256 ^ 2))) (c .before .before .before .before .before .before .put2 .ensures)
-    ∙ joins (now (c .before .before .before .before .before .before .before .before .before .args .buf)) (c .before .before .before .before .before .before .before .before .before .args .at) 2 2 (c .before .before .before .before .before .before .before .before .before .args .v)
+    let a = c .before .before .before .before .before .before .before .before .before .args in
+    joins (now (a .buf)) (a .at) 2 2 (a .v) (c .before .before .before .before .before .before .put2 .ensures) (c .before .before .put22 .ensures)
 
 pub put4-spec : {M : Type 1} → statement M
 put4-spec =

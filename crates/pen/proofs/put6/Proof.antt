@@ -2,9 +2,8 @@
 -- Assumes nothing.
 use denote.Ref.{now}
 use mathlib.Core.Path.{ap, _∙_}
-use Prim.Native.Nat.{_+_, _/_, _%_, _^_}
+use Prim.Native.Nat.{_/_, _^_}
 use lib.Seq.{sets}
-use Rattle.pen.specs.Encode.{digits}
 use Rattle.pen.proofs.Digits.{joins, digits-low}
 use borrow.Author.Needs.{needs}
 use Rattle.pen.proofs.put6.Statement.{statement}
@@ -30,9 +29,9 @@ same-length c = search needs
 
 returns : tie.Need-returns
 returns c =
-    c .before .before .put4 .ensures
-    ∙ ap (λ l. sets l (c .before .before .before .before .before .before .before .before .before .args .at + 2) (digits 4 (c .before .before .before .before .before .before .before .before .before .args .v % 256 ^ 4))) (c .before .before .before .before .before .before .put2 .ensures ∙ ap (sets (now (c .before .before .before .before .before .before .before .before .before .args .buf)) (c .before .before .before .before .before .before .before .before .before .args .at)) (digits-low 2 (c .before .before .before .before .before .before .before .before .before .args .v / 256 ^ 4)))
-    ∙ joins (now (c .before .before .before .before .before .before .before .before .before .args .buf)) (c .before .before .before .before .before .before .before .before .before .args .at) 2 4 (c .before .before .before .before .before .before .before .before .before .args .v)
+    let a = c .before .before .before .before .before .before .before .before .before .args in
+    joins (now (a .buf)) (a .at) 2 4 (a .v) (c .before .before .before .before .before .before .put2 .ensures ∙ ap (sets (now (a .buf)) (a .at)) (digits-low 2 (a .v / 256 ^ 4)))
+    (c .before .before .put4 .ensures)
 
 pub put6-spec : {M : Type 1} → statement M
 put6-spec =

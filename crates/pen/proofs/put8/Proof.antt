@@ -1,10 +1,6 @@
 -- `pen::put8` meets its contract.
 -- Assumes nothing.
 use denote.Ref.{now}
-use mathlib.Core.Path.{ap, _∙_}
-use Prim.Native.Nat.{_+_, _%_, _^_}
-use lib.Seq.{sets}
-use Rattle.pen.specs.Encode.{digits}
 use Rattle.pen.proofs.Digits.{joins}
 use borrow.Author.Needs.{needs}
 use Rattle.pen.proofs.put8.Statement.{statement}
@@ -30,9 +26,8 @@ same-length c = search needs
 
 returns : tie.Need-returns
 returns c =
-    c .before .before .put42 .ensures
-    ∙ ap (λ l. sets l (c .before .before .before .before .before .before .before .before .before .args .at + 4) (digits 4 (c .before .before .before .before .before .before .before .before .before .args .v % 256 ^ 4))) (c .before .before .before .before .before .before .put4 .ensures)
-    ∙ joins (now (c .before .before .before .before .before .before .before .before .before .args .buf)) (c .before .before .before .before .before .before .before .before .before .args .at) 4 4 (c .before .before .before .before .before .before .before .before .before .args .v)
+    let a = c .before .before .before .before .before .before .before .before .before .args in
+    joins (now (a .buf)) (a .at) 4 4 (a .v) (c .before .before .before .before .before .before .put4 .ensures) (c .before .before .put42 .ensures)
 
 pub put8-spec : {M : Type 1} → statement M
 put8-spec =

@@ -21,10 +21,14 @@ same-length c = search needs
 
 returns : tie.Need-returns
 unfolding digits
-returns c = (ap (set (now (c .before .args .buf)) (c .before .args .place)) (omega arith) ∙ sym (put-fits (now (c .before .args .buf)) (c .before .args .place) 1 (c .before .args .v) (c .if1 .taken)), search needs)
+returns c =
+    let a = c .before .args in
+    (ap (set (now (a .buf)) (a .place)) (omega arith) ∙ sym (put-fits (now (a .buf)) (a .place) 1 (a .v) (c .if1 .taken)), search needs)
 
 returns-2 : tie.Need-returns-2
-returns-2 c = (sym (put-not (now (c .before .args .buf)) (c .before .args .place) 1 (c .before .args .v) (c .if1 .left)), search needs)
+returns-2 c =
+    let a = c .before .args in
+    (sym (put-not (now (a .buf)) (a .place) 1 (a .v) (c .if1 .left)), search needs)
 
 pub set-u8-spec : {M : Type 1} → statement M
 set-u8-spec = tie.close (tie.spec add-if1 slice-write-buf same-length returns returns-2)

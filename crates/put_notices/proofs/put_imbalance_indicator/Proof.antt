@@ -45,20 +45,35 @@ set-u8-requires-3 c κs = search needs
 returns : tie.Need-returns
 unfolding layout
 returns c =
-    body-puts (now (c .before .before .before .before .before .before .before .before .before .before .before .before .before .before .before .before .before .before .before .before .before .before .before .before .before .before .before .before .before .before .before .before .before .before .before .before .before .before .before .args .buf)) (values (Body·.Imbalance (c .before .before .before .before .before .before .before .before .before .before .before .before .before .before .before .before .before .before .before .before .before .before .before .before .before .before .before .before .before .before .before .before .before .before .before .before .before .before .before .args .x)))
-    (c .before .before .before .before .before .before .before .before .before .before .before .before .before .before .before .before .before .before .before .before .before .before .before .before .before .before .before .before .before .before .before .before .before .before .before .before .set-u64 .ensures
-    ⨾ c .before .before .before .before .before .before .before .before .before .before .before .before .before .before .before .before .before .before .before .before .before .before .before .before .before .before .before .before .before .before .before .before .set-u642 .ensures
-    ⨾ c .before .before .before .before .before .before .before .before .before .before .before .before .before .before .before .before .before .before .before .before .before .before .before .before .before .before .before .set-u8 .ensures by c .before .before .before .before .before .before .before .before .before .before .before .before .before .before .before .before .before .before .before .before .before .before .before .before .before .before .before .before .direction-code .ensures
-    ⨾ c .before .before .before .before .before .before .before .before .before .before .before .before .before .before .before .before .before .before .before .before .before .before .before .set-u643 .ensures
-    ⨾ c .before .before .before .before .before .before .before .before .before .before .before .before .before .before .before .before .before .before .before .set-u32 .ensures
-    ⨾ c .before .before .before .before .before .before .before .before .before .before .before .before .before .before .before .set-u322 .ensures
-    ⨾ c .before .before .before .before .before .before .before .before .before .before .before .set-u323 .ensures
-    ⨾ c .before .before .before .before .before .before .set-u82 .ensures by c .before .before .before .before .before .before .before .cross-code .ensures
-    ⨾ c .before .before .set-u83 .ensures
+    let p9 = c .before .before in
+    let p8 = p9 .before .before .before .before in
+    let p7 = p8 .before .before .before .before .before in
+    let p6 = p7 .before .before .before .before in
+    let p5 = p6 .before .before .before .before in
+    let p4 = p5 .before .before .before .before in
+    let p3 = p4 .before .before .before .before in
+    let p2 = p3 .before .before .before .before .before in
+    let p1 = p2 .before .before .before .before in
+    let a = p1 .before .before .before .args in
+    body-puts (now (a .buf)) (values (Body·.Imbalance (a .x)))
+    (p1 .set-u64 .ensures
+    ⨾ p2 .set-u642 .ensures
+    ⨾ p3 .set-u8 .ensures by p3 .before .direction-code .ensures
+    ⨾ p4 .set-u643 .ensures
+    ⨾ p5 .set-u32 .ensures
+    ⨾ p6 .set-u322 .ensures
+    ⨾ p7 .set-u323 .ensures
+    ⨾ p8 .set-u82 .ensures by p8 .before .cross-code .ensures
+    ⨾ p9 .set-u83 .ensures
     ⨾ end)
 
 same-length : tie.Need-same-length
-same-length c = length-body (now (c .before .before .before .before .before .before .before .before .before .before .before .before .before .before .before .before .before .before .before .before .before .before .before .before .before .before .before .before .before .before .before .before .before .before .before .before .before .before .before .args .buf)) (values (Body·.Imbalance (c .before .before .before .before .before .before .before .before .before .before .before .before .before .before .before .before .before .before .before .before .before .before .before .before .before .before .before .before .before .before .before .before .before .before .before .before .before .before .before .args .x))) (returns c)
+same-length c =
+    let a =
+    c .before .before .before .before .before .before .before .before .before .before .before .before .before .before .before .before .before
+    .before .before .before .before .before .before .before .before .before .before .before .before .before .before .before .before .before
+    .before .before .before .before .before .args in
+    length-body (now (a .buf)) (values (Body·.Imbalance (a .x))) (returns c)
 
 pub put-imbalance-indicator-spec : {M : Type 1} → statement M
 put-imbalance-indicator-spec =

@@ -30,12 +30,18 @@ same-length c = search needs
 returns : tie.Need-returns
 unfolding layout
 returns c =
-    body-puts (now (c .before .before .before .before .before .before .before .before .before .before .before .before .before .before .before .before .before .before .before .before .before .args .buf)) (values (Body·.LULDAuctionCollar (c .before .before .before .before .before .before .before .before .before .before .before .before .before .before .before .before .before .before .before .before .before .args .stock) (c .before .before .before .before .before .before .before .before .before .before .before .before .before .before .before .before .before .before .before .before .before .args .ref-price) (c .before .before .before .before .before .before .before .before .before .before .before .before .before .before .before .before .before .before .before .before .before .args .upper-price) (c .before .before .before .before .before .before .before .before .before .before .before .before .before .before .before .before .before .before .before .before .before .args .lower-price) (c .before .before .before .before .before .before .before .before .before .before .before .before .before .before .before .before .before .before .before .before .before .args .extension)))
-    (c .before .before .before .before .before .before .before .before .before .before .before .before .before .before .before .before .before .before .set-u64 .ensures
-    ⨾ c .before .before .before .before .before .before .before .before .before .before .before .before .before .before .set-u32 .ensures
-    ⨾ c .before .before .before .before .before .before .before .before .before .before .set-u322 .ensures
-    ⨾ c .before .before .before .before .before .before .set-u323 .ensures
-    ⨾ c .before .before .set-u324 .ensures
+    let p5 = c .before .before in
+    let p4 = p5 .before .before .before .before in
+    let p3 = p4 .before .before .before .before in
+    let p2 = p3 .before .before .before .before in
+    let p1 = p2 .before .before .before .before in
+    let a = p1 .before .before .before .args in
+    body-puts (now (a .buf)) (values (Body·.LULDAuctionCollar (a .stock) (a .ref-price) (a .upper-price) (a .lower-price) (a .extension)))
+    (p1 .set-u64 .ensures
+    ⨾ p2 .set-u32 .ensures
+    ⨾ p3 .set-u322 .ensures
+    ⨾ p4 .set-u323 .ensures
+    ⨾ p5 .set-u324 .ensures
     ⨾ end)
 
 pub put-luld-auction-collar-spec : {M : Type 1} → statement M

@@ -24,10 +24,14 @@ same-length c = search needs
 returns : tie.Need-returns
 unfolding layout
 returns c =
-    body-puts (now (c .before .before .before .before .before .before .before .before .before .before .before .before .before .args .buf)) (values (Body·.MwcbDeclineLevel (c .before .before .before .before .before .before .before .before .before .before .before .before .before .args .level1) (c .before .before .before .before .before .before .before .before .before .before .before .before .before .args .level2) (c .before .before .before .before .before .before .before .before .before .before .before .before .before .args .level3)))
-    (c .before .before .before .before .before .before .before .before .before .before .set-u64 .ensures
-    ⨾ c .before .before .before .before .before .before .set-u642 .ensures
-    ⨾ c .before .before .set-u643 .ensures
+    let p3 = c .before .before in
+    let p2 = p3 .before .before .before .before in
+    let p1 = p2 .before .before .before .before in
+    let a = p1 .before .before .before .args in
+    body-puts (now (a .buf)) (values (Body·.MwcbDeclineLevel (a .level1) (a .level2) (a .level3)))
+    (p1 .set-u64 .ensures
+    ⨾ p2 .set-u642 .ensures
+    ⨾ p3 .set-u643 .ensures
     ⨾ end)
 
 pub put-mwcb-decline-level-spec : {M : Type 1} → statement M

@@ -39,12 +39,18 @@ same-length c = search needs
 returns : tie.Need-returns
 unfolding layout
 returns c =
-    body-puts (now (c .before .before .before .before .before .before .before .before .before .before .before .before .before .before .before .before .before .before .before .before .before .before .before .before .args .buf)) (values (Body·.ParticipantPosition (c .before .before .before .before .before .before .before .before .before .before .before .before .before .before .before .before .before .before .before .before .before .before .before .before .args .x)))
-    (c .before .before .before .before .before .before .before .before .before .before .before .before .before .before .before .before .before .before .before .before .before .set-u32 .ensures
-    ⨾ c .before .before .before .before .before .before .before .before .before .before .before .before .before .before .before .before .before .set-u64 .ensures
-    ⨾ c .before .before .before .before .before .before .before .before .before .before .before .before .set-u8 .ensures by c .before .before .before .before .before .before .before .before .before .before .before .before .before .yes-no-code .ensures
-    ⨾ c .before .before .before .before .before .before .before .set-u82 .ensures by c .before .before .before .before .before .before .before .before .maker-mode-code .ensures
-    ⨾ c .before .before .set-u83 .ensures by c .before .before .before .participant-state-code .ensures
+    let p5 = c .before .before in
+    let p4 = p5 .before .before .before .before .before in
+    let p3 = p4 .before .before .before .before .before in
+    let p2 = p3 .before .before .before .before .before in
+    let p1 = p2 .before .before .before .before in
+    let a = p1 .before .before .before .args in
+    body-puts (now (a .buf)) (values (Body·.ParticipantPosition (a .x)))
+    (p1 .set-u32 .ensures
+    ⨾ p2 .set-u64 .ensures
+    ⨾ p3 .set-u8 .ensures by p3 .before .yes-no-code .ensures
+    ⨾ p4 .set-u82 .ensures by p4 .before .maker-mode-code .ensures
+    ⨾ p5 .set-u83 .ensures by p5 .before .participant-state-code .ensures
     ⨾ end)
 
 pub put-participant-position-spec : {M : Type 1} → statement M

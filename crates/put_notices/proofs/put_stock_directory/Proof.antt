@@ -87,25 +87,46 @@ set-u8-requires-10 c κs = search needs
 returns : tie.Need-returns
 unfolding layout
 returns c =
-    body-puts (now (c .before .before .before .before .before .before .before .before .before .before .before .before .before .before .before .before .before .before .before .before .before .before .before .before .before .before .before .before .before .before .before .before .before .before .before .before .before .before .before .before .before .before .before .before .before .before .before .before .before .before .before .before .before .before .before .before .before .before .before .before .before .before .before .before .before .before .before .before .args .buf)) (values (Body·.StockDirectory (c .before .before .before .before .before .before .before .before .before .before .before .before .before .before .before .before .before .before .before .before .before .before .before .before .before .before .before .before .before .before .before .before .before .before .before .before .before .before .before .before .before .before .before .before .before .before .before .before .before .before .before .before .before .before .before .before .before .before .before .before .before .before .before .before .before .before .before .before .args .x)))
-    (c .before .before .before .before .before .before .before .before .before .before .before .before .before .before .before .before .before .before .before .before .before .before .before .before .before .before .before .before .before .before .before .before .before .before .before .before .before .before .before .before .before .before .before .before .before .before .before .before .before .before .before .before .before .before .before .before .before .before .before .before .before .before .before .before .before .set-u64 .ensures
-    ⨾ c .before .before .before .before .before .before .before .before .before .before .before .before .before .before .before .before .before .before .before .before .before .before .before .before .before .before .before .before .before .before .before .before .before .before .before .before .before .before .before .before .before .before .before .before .before .before .before .before .before .before .before .before .before .before .before .before .before .before .before .before .set-u8 .ensures by c .before .before .before .before .before .before .before .before .before .before .before .before .before .before .before .before .before .before .before .before .before .before .before .before .before .before .before .before .before .before .before .before .before .before .before .before .before .before .before .before .before .before .before .before .before .before .before .before .before .before .before .before .before .before .before .before .before .before .before .before .before .category-code .ensures
-    ⨾ c .before .before .before .before .before .before .before .before .before .before .before .before .before .before .before .before .before .before .before .before .before .before .before .before .before .before .before .before .before .before .before .before .before .before .before .before .before .before .before .before .before .before .before .before .before .before .before .before .before .before .before .before .before .before .before .set-u82 .ensures by c .before .before .before .before .before .before .before .before .before .before .before .before .before .before .before .before .before .before .before .before .before .before .before .before .before .before .before .before .before .before .before .before .before .before .before .before .before .before .before .before .before .before .before .before .before .before .before .before .before .before .before .before .before .before .before .before .status-code .ensures
-    ⨾ c .before .before .before .before .before .before .before .before .before .before .before .before .before .before .before .before .before .before .before .before .before .before .before .before .before .before .before .before .before .before .before .before .before .before .before .before .before .before .before .before .before .before .before .before .before .before .before .before .before .before .before .set-u32 .ensures
-    ⨾ c .before .before .before .before .before .before .before .before .before .before .before .before .before .before .before .before .before .before .before .before .before .before .before .before .before .before .before .before .before .before .before .before .before .before .before .before .before .before .before .before .before .before .before .before .before .before .set-u83 .ensures by c .before .before .before .before .before .before .before .before .before .before .before .before .before .before .before .before .before .before .before .before .before .before .before .before .before .before .before .before .before .before .before .before .before .before .before .before .before .before .before .before .before .before .before .before .before .before .before .yes-no-code .ensures
-    ⨾ c .before .before .before .before .before .before .before .before .before .before .before .before .before .before .before .before .before .before .before .before .before .before .before .before .before .before .before .before .before .before .before .before .before .before .before .before .before .before .before .before .before .set-u84 .ensures by c .before .before .before .before .before .before .before .before .before .before .before .before .before .before .before .before .before .before .before .before .before .before .before .before .before .before .before .before .before .before .before .before .before .before .before .before .before .before .before .before .before .before .class-code .ensures
-    ⨾ c .before .before .before .before .before .before .before .before .before .before .before .before .before .before .before .before .before .before .before .before .before .before .before .before .before .before .before .before .before .before .before .before .before .before .before .before .set-u16 .ensures by c .before .before .before .before .before .before .before .before .before .before .before .before .before .before .before .before .before .before .before .before .before .before .before .before .before .before .before .before .before .before .before .before .before .before .before .before .before .subtype-code .ensures
-    ⨾ c .before .before .before .before .before .before .before .before .before .before .before .before .before .before .before .before .before .before .before .before .before .before .before .before .before .before .before .before .before .before .before .set-u85 .ensures by c .before .before .before .before .before .before .before .before .before .before .before .before .before .before .before .before .before .before .before .before .before .before .before .before .before .before .before .before .before .before .before .before .authenticity-code .ensures
-    ⨾ c .before .before .before .before .before .before .before .before .before .before .before .before .before .before .before .before .before .before .before .before .before .before .before .before .before .before .set-u86 .ensures by c .before .before .before .before .before .before .before .before .before .before .before .before .before .before .before .before .before .before .before .before .before .before .before .before .before .before .before .flag-code .ensures
-    ⨾ c .before .before .before .before .before .before .before .before .before .before .before .before .before .before .before .before .before .before .before .before .before .set-u87 .ensures by c .before .before .before .before .before .before .before .before .before .before .before .before .before .before .before .before .before .before .before .before .before .before .flag-code2 .ensures
-    ⨾ c .before .before .before .before .before .before .before .before .before .before .before .before .before .before .before .before .set-u88 .ensures by c .before .before .before .before .before .before .before .before .before .before .before .before .before .before .before .before .before .tier-code .ensures
-    ⨾ c .before .before .before .before .before .before .before .before .before .before .before .set-u89 .ensures by c .before .before .before .before .before .before .before .before .before .before .before .before .flag-code3 .ensures
-    ⨾ c .before .before .before .before .before .before .before .set-u322 .ensures
-    ⨾ c .before .before .set-u810 .ensures by c .before .before .before .yes-no-code2 .ensures
+    let p14 = c .before .before in
+    let p13 = p14 .before .before .before .before .before in
+    let p12 = p13 .before .before .before .before in
+    let p11 = p12 .before .before .before .before .before in
+    let p10 = p11 .before .before .before .before .before in
+    let p9 = p10 .before .before .before .before .before in
+    let p8 = p9 .before .before .before .before .before in
+    let p7 = p8 .before .before .before .before .before in
+    let p6 = p7 .before .before .before .before .before in
+    let p5 = p6 .before .before .before .before .before in
+    let p4 = p5 .before .before .before .before .before in
+    let p3 = p4 .before .before .before .before in
+    let p2 = p3 .before .before .before .before .before in
+    let p1 = p2 .before .before .before .before .before in
+    let a = p1 .before .before .before .args in
+    body-puts (now (a .buf)) (values (Body·.StockDirectory (a .x)))
+    (p1 .set-u64 .ensures
+    ⨾ p2 .set-u8 .ensures by p2 .before .category-code .ensures
+    ⨾ p3 .set-u82 .ensures by p3 .before .status-code .ensures
+    ⨾ p4 .set-u32 .ensures
+    ⨾ p5 .set-u83 .ensures by p5 .before .yes-no-code .ensures
+    ⨾ p6 .set-u84 .ensures by p6 .before .class-code .ensures
+    ⨾ p7 .set-u16 .ensures by p7 .before .subtype-code .ensures
+    ⨾ p8 .set-u85 .ensures by p8 .before .authenticity-code .ensures
+    ⨾ p9 .set-u86 .ensures by p9 .before .flag-code .ensures
+    ⨾ p10 .set-u87 .ensures by p10 .before .flag-code2 .ensures
+    ⨾ p11 .set-u88 .ensures by p11 .before .tier-code .ensures
+    ⨾ p12 .set-u89 .ensures by p12 .before .flag-code3 .ensures
+    ⨾ p13 .set-u322 .ensures
+    ⨾ p14 .set-u810 .ensures by p14 .before .yes-no-code2 .ensures
     ⨾ end)
 
 same-length : tie.Need-same-length
-same-length c = length-body (now (c .before .before .before .before .before .before .before .before .before .before .before .before .before .before .before .before .before .before .before .before .before .before .before .before .before .before .before .before .before .before .before .before .before .before .before .before .before .before .before .before .before .before .before .before .before .before .before .before .before .before .before .before .before .before .before .before .before .before .before .before .before .before .before .before .before .before .before .before .args .buf)) (values (Body·.StockDirectory (c .before .before .before .before .before .before .before .before .before .before .before .before .before .before .before .before .before .before .before .before .before .before .before .before .before .before .before .before .before .before .before .before .before .before .before .before .before .before .before .before .before .before .before .before .before .before .before .before .before .before .before .before .before .before .before .before .before .before .before .before .before .before .before .before .before .before .before .before .args .x))) (returns c)
+same-length c =
+    let a =
+    c .before .before .before .before .before .before .before .before .before .before .before .before .before .before .before .before .before
+    .before .before .before .before .before .before .before .before .before .before .before .before .before .before .before .before .before
+    .before .before .before .before .before .before .before .before .before .before .before .before .before .before .before .before .before
+    .before .before .before .before .before .before .before .before .before .before .before .before .before .before .before .before .before .args in
+    length-body (now (a .buf)) (values (Body·.StockDirectory (a .x))) (returns c)
 
 pub put-stock-directory-spec : {M : Type 1} → statement M
 put-stock-directory-spec =

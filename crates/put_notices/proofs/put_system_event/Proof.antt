@@ -21,7 +21,8 @@ same-length c = search needs
 returns : tie.Need-returns
 unfolding layout
 returns c =
-    body-puts (now (c .before .before .before .before .before .before .args .buf)) (values (Body·.SystemEvent (c .before .before .before .before .before .before .args .event)))
+    let a = c .before .before .before .before .before .before .args in
+    body-puts (now (a .buf)) (values (Body·.SystemEvent (a .event)))
     (c .before .before .set-u8 .ensures by c .before .before .before .event-code .ensures
     ⨾ end)
 

@@ -30,11 +30,16 @@ same-length c = search needs
 returns : tie.Need-returns
 unfolding layout
 returns c =
-    body-puts (now (c .before .before .before .before .before .before .before .before .before .before .before .before .before .before .before .before .before .before .args .buf)) (values (Body·.TradingAction (c .before .before .before .before .before .before .before .before .before .before .before .before .before .before .before .before .before .before .args .stock) (c .before .before .before .before .before .before .before .before .before .before .before .before .before .before .before .before .before .before .args .trading-state) (c .before .before .before .before .before .before .before .before .before .before .before .before .before .before .before .before .before .before .args .reason)))
-    (c .before .before .before .before .before .before .before .before .before .before .before .before .before .before .before .set-u64 .ensures
-    ⨾ c .before .before .before .before .before .before .before .before .before .before .set-u8 .ensures by c .before .before .before .before .before .before .before .before .before .before .before .trading-state-code .ensures
-    ⨾ c .before .before .before .before .before .before .set-u82 .ensures
-    ⨾ c .before .before .set-u32 .ensures
+    let p4 = c .before .before in
+    let p3 = p4 .before .before .before .before in
+    let p2 = p3 .before .before .before .before in
+    let p1 = p2 .before .before .before .before .before in
+    let a = p1 .before .before .before .args in
+    body-puts (now (a .buf)) (values (Body·.TradingAction (a .stock) (a .trading-state) (a .reason)))
+    (p1 .set-u64 .ensures
+    ⨾ p2 .set-u8 .ensures by p2 .before .trading-state-code .ensures
+    ⨾ p3 .set-u82 .ensures
+    ⨾ p4 .set-u32 .ensures
     ⨾ end)
 
 pub put-trading-action-spec : {M : Type 1} → statement M

@@ -33,14 +33,21 @@ same-length c = search needs
 
 returns : tie.Need-returns
 returns c =
-    order-puts (now (c .before .before .before .before .before .before .before .before .before .before .before .before .before .before .before .before .before .before .before .before .before .before .before .before .before .before .args .buf)) (c .before .before .before .before .before .before .before .before .before .before .before .before .before .before .before .before .before .before .before .before .before .before .before .before .before .before .args .x) (c .before .before .before .before .before .before .before .before .before .before .before .before .before .before .before .before .before .before .before .before .before .before .before .before .before .before .args .x .mpid)
-    (c .before .before .before .before .before .before .before .before .before .before .before .before .before .before .before .before .before .before .before .before .before .before .before .set-u64 .ensures
-    ⨾ c .before .before .before .before .before .before .before .before .before .before .before .before .before .before .before .before .before .before .set-u8 .ensures by c .before .before .before .before .before .before .before .before .before .before .before .before .before .before .before .before .before .before .before .side-code .ensures
-    ⨾ c .before .before .before .before .before .before .before .before .before .before .before .before .before .before .set-u32 .ensures
-    ⨾ c .before .before .before .before .before .before .before .before .before .before .set-u642 .ensures
-    ⨾ c .before .before .before .before .before .before .set-u322 .ensures
+    let p6 = c .before .before in
+    let p5 = p6 .before .before .before .before in
+    let p4 = p5 .before .before .before .before in
+    let p3 = p4 .before .before .before .before in
+    let p2 = p3 .before .before .before .before in
+    let p1 = p2 .before .before .before .before .before in
+    let a = p1 .before .before .before .args in
+    order-puts (now (a .buf)) (a .x) (a .x .mpid)
+    (p1 .set-u64 .ensures
+    ⨾ p2 .set-u8 .ensures by p2 .before .side-code .ensures
+    ⨾ p3 .set-u32 .ensures
+    ⨾ p4 .set-u642 .ensures
+    ⨾ p5 .set-u322 .ensures
     ⨾ end)
-    (c .before .before .put-mpid .ensures)
+    (p6 .put-mpid .ensures)
 
 pub put-add-order-spec : {M : Type 1} → statement M
 put-add-order-spec =

@@ -18,7 +18,8 @@ same-length c = search needs
 returns : tie.Need-returns
 unfolding layout
 returns c =
-    body-puts (now (c .before .before .before .before .before .args .buf)) (values (Body·.BrokenTrade (c .before .before .before .before .before .args .match-number)))
+    let a = c .before .before .before .before .before .args in
+    body-puts (now (a .buf)) (values (Body·.BrokenTrade (a .match-number)))
     (c .before .before .set-u64 .ensures
     ⨾ end)
 

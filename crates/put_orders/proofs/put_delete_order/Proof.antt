@@ -18,7 +18,8 @@ same-length c = search needs
 returns : tie.Need-returns
 unfolding layout
 returns c =
-    body-puts (now (c .before .before .before .before .before .args .buf)) (values (Body·.DeleteOrder (c .before .before .before .before .before .args .reference)))
+    let a = c .before .before .before .before .before .args in
+    body-puts (now (a .buf)) (values (Body·.DeleteOrder (a .reference)))
     (c .before .before .set-u64 .ensures
     ⨾ end)
 

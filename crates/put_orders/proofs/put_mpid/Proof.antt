@@ -22,7 +22,10 @@ same-length : tie.Need-same-length
 same-length c = search needs
 
 returns-2 : tie.Need-returns-2
-returns-2 c = put-some (now (c .before .before .before .before .before .before .before .before .args .buf)) (c .before .before .before .before .before .before .before .before .args .mpid) (c .before .before .before .before .before .mpid .given .0 .0) (c .before .before .before .before .before .mpid .given .1) (c .before .before .set-u32 .ensures)
+returns-2 c =
+    let a = c .before .before .before .before .before .before .before .before .args in
+    let v = c .before .before .before .before .before .mpid .given in
+    put-some (now (a .buf)) (a .mpid) (v .0 .0) (v .1) (c .before .before .set-u32 .ensures)
 
 pub put-mpid-spec : {M : Type 1} → statement M
 put-mpid-spec =

@@ -21,9 +21,12 @@ same-length c = search needs
 returns : tie.Need-returns
 unfolding layout
 returns c =
-    body-puts (now (c .before .before .before .before .before .before .before .before .before .args .buf)) (values (Body·.OrderCancelled (c .before .before .before .before .before .before .before .before .before .args .reference) (c .before .before .before .before .before .before .before .before .before .args .cancelled)))
-    (c .before .before .before .before .before .before .set-u64 .ensures
-    ⨾ c .before .before .set-u32 .ensures
+    let p2 = c .before .before in
+    let p1 = p2 .before .before .before .before in
+    let a = p1 .before .before .before .args in
+    body-puts (now (a .buf)) (values (Body·.OrderCancelled (a .reference) (a .cancelled)))
+    (p1 .set-u64 .ensures
+    ⨾ p2 .set-u32 .ensures
     ⨾ end)
 
 pub put-order-cancelled-spec : {M : Type 1} → statement M

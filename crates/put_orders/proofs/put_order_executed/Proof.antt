@@ -24,10 +24,14 @@ same-length c = search needs
 returns : tie.Need-returns
 unfolding layout
 returns c =
-    body-puts (now (c .before .before .before .before .before .before .before .before .before .before .before .before .before .args .buf)) (values (Body·.OrderExecuted (c .before .before .before .before .before .before .before .before .before .before .before .before .before .args .reference) (c .before .before .before .before .before .before .before .before .before .before .before .before .before .args .executed) (c .before .before .before .before .before .before .before .before .before .before .before .before .before .args .match-number)))
-    (c .before .before .before .before .before .before .before .before .before .before .set-u64 .ensures
-    ⨾ c .before .before .before .before .before .before .set-u32 .ensures
-    ⨾ c .before .before .set-u642 .ensures
+    let p3 = c .before .before in
+    let p2 = p3 .before .before .before .before in
+    let p1 = p2 .before .before .before .before in
+    let a = p1 .before .before .before .args in
+    body-puts (now (a .buf)) (values (Body·.OrderExecuted (a .reference) (a .executed) (a .match-number)))
+    (p1 .set-u64 .ensures
+    ⨾ p2 .set-u32 .ensures
+    ⨾ p3 .set-u642 .ensures
     ⨾ end)
 
 pub put-order-executed-spec : {M : Type 1} → statement M

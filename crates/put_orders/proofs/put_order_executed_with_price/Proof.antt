@@ -33,12 +33,18 @@ same-length c = search needs
 returns : tie.Need-returns
 unfolding layout
 returns c =
-    body-puts (now (c .before .before .before .before .before .before .before .before .before .before .before .before .before .before .before .before .before .before .before .before .before .before .args .buf)) (values (Body·.OrderExecutedWithPrice (c .before .before .before .before .before .before .before .before .before .before .before .before .before .before .before .before .before .before .before .before .before .before .args .reference) (c .before .before .before .before .before .before .before .before .before .before .before .before .before .before .before .before .before .before .before .before .before .before .args .executed) (c .before .before .before .before .before .before .before .before .before .before .before .before .before .before .before .before .before .before .before .before .before .before .args .match-number) (c .before .before .before .before .before .before .before .before .before .before .before .before .before .before .before .before .before .before .before .before .before .before .args .printable) (c .before .before .before .before .before .before .before .before .before .before .before .before .before .before .before .before .before .before .before .before .before .before .args .price)))
-    (c .before .before .before .before .before .before .before .before .before .before .before .before .before .before .before .before .before .before .before .set-u64 .ensures
-    ⨾ c .before .before .before .before .before .before .before .before .before .before .before .before .before .before .before .set-u32 .ensures
-    ⨾ c .before .before .before .before .before .before .before .before .before .before .before .set-u642 .ensures
-    ⨾ c .before .before .before .before .before .before .set-u8 .ensures by c .before .before .before .before .before .before .before .yes-no-code .ensures
-    ⨾ c .before .before .set-u322 .ensures
+    let p5 = c .before .before in
+    let p4 = p5 .before .before .before .before in
+    let p3 = p4 .before .before .before .before .before in
+    let p2 = p3 .before .before .before .before in
+    let p1 = p2 .before .before .before .before in
+    let a = p1 .before .before .before .args in
+    body-puts (now (a .buf)) (values (Body·.OrderExecutedWithPrice (a .reference) (a .executed) (a .match-number) (a .printable) (a .price)))
+    (p1 .set-u64 .ensures
+    ⨾ p2 .set-u32 .ensures
+    ⨾ p3 .set-u642 .ensures
+    ⨾ p4 .set-u8 .ensures by p4 .before .yes-no-code .ensures
+    ⨾ p5 .set-u322 .ensures
     ⨾ end)
 
 pub put-order-executed-with-price-spec : {M : Type 1} → statement M

@@ -28,12 +28,19 @@ same-length c = search needs
 
 returns : tie.Need-returns
 returns c =
-    puts (now (c .before .before .before .before .before .before .before .before .before .before .before .before .before .before .before .before .before .before .before .before .before .args .buf)) 0 header (c .before .before .before .before .before .before .before .before .before .before .before .before .before .before .before .before .before .before .before .before .before .args .size ∷ c .before .before .before .before .before .before .before .before .before .before .before .before .before .before .before .before .before .before .before .before .before .args .tag ∷ c .before .before .before .before .before .before .before .before .before .before .before .before .before .before .before .before .before .before .before .before .before .args .locate ∷ c .before .before .before .before .before .before .before .before .before .before .before .before .before .before .before .before .before .before .before .before .before .args .tracking ∷ c .before .before .before .before .before .before .before .before .before .before .before .before .before .before .before .before .before .before .before .before .before .args .time ∷ [])
-    (c .before .before .before .before .before .before .before .before .before .before .before .before .before .before .before .before .before .before .set-u16 .ensures
-    ⨾ c .before .before .before .before .before .before .before .before .before .before .before .before .before .before .set-u8 .ensures
-    ⨾ c .before .before .before .before .before .before .before .before .before .before .set-u162 .ensures
-    ⨾ c .before .before .before .before .before .before .set-u163 .ensures
-    ⨾ (c .before .before .set-u48 .ensures, c .before .before .before .before .before .before .before .before .before .before .before .before .before .before .before .before .before .before .before .before .before .pre)
+    let p5 = c .before .before in
+    let p4 = p5 .before .before .before .before in
+    let p3 = p4 .before .before .before .before in
+    let p2 = p3 .before .before .before .before in
+    let p1 = p2 .before .before .before .before in
+    let p0 = p1 .before .before .before in
+    let a = p0 .args in
+    puts (now (a .buf)) 0 header (a .size ∷ a .tag ∷ a .locate ∷ a .tracking ∷ a .time ∷ [])
+    (p1 .set-u16 .ensures
+    ⨾ p2 .set-u8 .ensures
+    ⨾ p3 .set-u162 .ensures
+    ⨾ p4 .set-u163 .ensures
+    ⨾ (p5 .set-u48 .ensures, p0 .pre)
     ⨾ end)
 
 pub put-header-spec : {M : Type 1} → statement M
