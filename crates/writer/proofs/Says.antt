@@ -1,17 +1,17 @@
 -- The cases of the writer's answer, over plain values; the laws of bodies that the writer cites.
 -- Assumes nothing.
 use mathlib.Core.Path.{_≡_, refl, sym, ap, _∙_, subst}
-use mathlib.Core.List.{List, _++_}
-use mathlib.Core.Bool.{Bool, true, false, _&&_}
+use mathlib.Core.List.{List, [], _∷_, _++_}
+use mathlib.Core.Bool.{Bool, true, false, cond, _&&_}
 use native.Mathlib.Omega.{arith}
 use Prim.Native.Nat.{ℕ, _+_, _^_, _≤_, _<_}
 use lib.ListN.{length, length-append, getD, drop}
 use lib.Seq.{sets, sets-eq, length-sets}
 use borrow.Author.Tests.{eq-eqb, ne-eqb, lt-ltb, le-ltb, le-leb, lt-leb}
 use Rattle.format.specs.Utf8.{wellFormed}
-use Rattle.format.specs.Layout.{widths}
+use Rattle.format.specs.Layout.{Kind, widths}
 use Rattle.format.specs.Rows.{sizeOf, header}
-use Rattle.pen.specs.Encode.{digits, write, layout, putRow, PutBody}
+use Rattle.pen.specs.Encode.{digits, kept, write, layout, putRow, PutBody}
 use Rattle.pen.proofs.Digits.{sets-append}
 use Rattle.pen.proofs.Puts.{length-write, row-fits}
 use Rattle.records.specs.declared.Mpid.{Mpid}
@@ -40,11 +40,16 @@ module _ (b : Body) {k : Checked} (e : k ≡ checkedOf (values b)) where
   pub told-intraday : (v : Bool) → k .intraday ≡ v → intraday (values b) ≡ v
   told-intraday v q = sym (ap (λ (x : Checked). x .intraday) e) ∙ q
 
+-- of equal bodies the same is found
+pub checked : {b x : Body} → b ≡ x → checkedOf (values b) ≡ checkedOf (values x)
+checked q = ap (λ b. checkedOf (values b)) q
+
 -- what is looked at before a body is written, by how many texts it has
 abbrev looked : ℕ → Bool → Bool → Checked
 looked t x i = record { tag = t; texts = x; intraday = i }
 
-pub one-text : (t w v : ℕ) {r i j : Bool} {k : Checked} → k ≡ looked t (wellFormed (digits w v) && true) i → r ≡ wellFormed (digits w v) → j ≡ i → looked t r j ≡ k
+pub one-text : (t w v : ℕ) {r i j : Bool} {k : Checked} → k ≡ looked t (wellFormed (digits w v) && true) i → r ≡ wellFormed (digits w v) → j ≡ i
+    → looked t r j ≡ k
 one-text t w v {r} {i} q e f = ap (λ j. looked t r j) f ∙ ap (λ x. looked t x i) (e ∙ sym (and-true (wellFormed (digits w v)))) ∙ sym q
 
 pub two-texts : (t w v x y : ℕ) {r a b : Bool} {k : Checked} → k ≡ looked t (wellFormed (digits w v) && (wellFormed (digits x y) && true)) false
@@ -55,40 +60,56 @@ two-texts t w v x y {b = b} q e f g =
 pub order-checked : (a : AddOrder) (p : Mpid) {t : ℕ} {r x y : Bool} → t ≡ mpidTag p → x ≡ wellFormed (digits 8 (a .stock)) → y ≡ mpidFine p → r ≡ x && y
     → looked t r false ≡ checkedOf (orderValues a p)
 unfolding textsOf intraday layout
-order-checked a Absent {r = r} {y = y} h e f g =
-    ap (λ t. looked t r false) h ∙ ap (λ x. looked (mpidTag Absent) x false) (g ∙ ap (λ x. x && y) e ∙ ap (λ y. wellFormed (digits 8 (a .stock)) && y) f)
-order-checked a (Present v) {r = r} {y = y} h e f g =
-    ap (λ t. looked t r false) h
-    ∙ ap (λ x. looked (mpidTag (Present v)) x false) (g ∙ ap (λ x. x && y) e ∙ ap (λ y. wellFormed (digits 8 (a .stock)) && y) (f ∙ sym (and-true (wellFormed (digits 4 v)))))
+order-checked a p {r = r} {y = y} h e f g =
+    let q : r ≡ wellFormed (digits 8 (a .stock)) && mpidFine p = g ∙ ap (λ x. x && y) e ∙ ap (λ y. wellFormed (digits 8 (a .stock)) && y) f in
+    ap (λ t. looked t r false) h ∙ ap (λ x. looked (mpidTag p) x false) q ∙ go p
+  where
+    go : (p : Mpid) → looked (mpidTag p) (wellFormed (digits 8 (a .stock)) && mpidFine p) false ≡ checkedOf (orderValues a p)
+    go Absent = refl
+    go (Present v) = ap (λ y. looked (mpidTag (Present v)) (wellFormed (digits 8 (a .stock)) && y) false) (sym (and-true (wellFormed (digits 4 v))))
 
--- a body's size is that of its fields, counted from the tag on
-order-size : (a : AddOrder) (p : Mpid) → sizeOf (getD (orderValues a p) 0 0) ≡ 11 + widths (layout (getD (orderValues a p) 0 0))
+-- how many values a row has: one for each field that is kept
+abbrev pub count : List Kind → ℕ
+count [] = 0
+count (k ∷ ks) = cond (kept k) 1 0 + count ks
+
+-- a body goes by its tag's row: the size is that of the fields, counted from the tag on; behind the tag stand as many values as the row has
+abbrev Rowed : List ℕ → Type 0
+Rowed vs = (sizeOf (getD vs 0 0) ≡ 11 + widths (layout (getD vs 0 0))) × (length vs ≡ 1 + count (layout (getD vs 0 0)))
+
+order-rowed : (a : AddOrder) (p : Mpid) → Rowed (orderValues a p)
 unfolding sizeOf layout
-order-size a Absent = refl
-order-size a (Present v) = refl
+order-rowed a Absent = (refl, refl)
+order-rowed a (Present v) = (refl, refl)
+
+body-rowed : (b : Body) → Rowed (values b)
+unfolding sizeOf layout
+body-rowed (Body·.AddOrder x) = order-rowed x (x .mpid)
+body-rowed (Body·.Breach x) = (refl, refl)
+body-rowed (Body·.BrokenTrade match-number) = (refl, refl)
+body-rowed (Body·.CrossTrade x) = (refl, refl)
+body-rowed (Body·.DeleteOrder reference) = (refl, refl)
+body-rowed (Body·.Imbalance x) = (refl, refl)
+body-rowed (Body·.IpoQuotingPeriod x) = (refl, refl)
+body-rowed (Body·.LULDAuctionCollar stock ref-price upper-price lower-price extension) = (refl, refl)
+body-rowed (Body·.MwcbDeclineLevel level1 level2 level3) = (refl, refl)
+body-rowed (Body·.NonCrossTrade x) = (refl, refl)
+body-rowed (Body·.OrderCancelled reference cancelled) = (refl, refl)
+body-rowed (Body·.OrderExecuted reference executed match-number) = (refl, refl)
+body-rowed (Body·.OrderExecutedWithPrice reference executed match-number printable price) = (refl, refl)
+body-rowed (Body·.ParticipantPosition x) = (refl, refl)
+body-rowed (Body·.RegShoRestriction stock action) = (refl, refl)
+body-rowed (Body·.ReplaceOrder x) = (refl, refl)
+body-rowed (Body·.RetailPriceImprovementIndicator x) = (refl, refl)
+body-rowed (Body·.StockDirectory x) = (refl, refl)
+body-rowed (Body·.SystemEvent event) = (refl, refl)
+body-rowed (Body·.TradingAction stock trading-state reason) = (refl, refl)
 
 pub body-size : (b : Body) → sizeOf (tagOf b) ≡ 11 + widths (layout (tagOf b))
-unfolding sizeOf layout
-body-size (Body·.AddOrder x) = order-size x (x .mpid)
-body-size (Body·.Breach x) = refl
-body-size (Body·.BrokenTrade match-number) = refl
-body-size (Body·.CrossTrade x) = refl
-body-size (Body·.DeleteOrder reference) = refl
-body-size (Body·.Imbalance x) = refl
-body-size (Body·.IpoQuotingPeriod x) = refl
-body-size (Body·.LULDAuctionCollar stock ref-price upper-price lower-price extension) = refl
-body-size (Body·.MwcbDeclineLevel level1 level2 level3) = refl
-body-size (Body·.NonCrossTrade x) = refl
-body-size (Body·.OrderCancelled reference cancelled) = refl
-body-size (Body·.OrderExecuted reference executed match-number) = refl
-body-size (Body·.OrderExecutedWithPrice reference executed match-number printable price) = refl
-body-size (Body·.ParticipantPosition x) = refl
-body-size (Body·.RegShoRestriction stock action) = refl
-body-size (Body·.ReplaceOrder x) = refl
-body-size (Body·.RetailPriceImprovementIndicator x) = refl
-body-size (Body·.StockDirectory x) = refl
-body-size (Body·.SystemEvent event) = refl
-body-size (Body·.TradingAction stock trading-state reason) = refl
+body-size b = body-rowed b .0
+
+pub body-count : (b : Body) → length (values b) ≡ 1 + count (layout (tagOf b))
+body-count b = body-rowed b .1
 
 pub body-is : (s : List ℕ) {b x : Body} {u : List ℕ} → b ≡ x → PutBody s (values x) u → PutBody s (values b) u
 body-is s {u = u} q e = subst (λ b. PutBody s (values b) u) (sym q) e
@@ -124,7 +145,7 @@ module _ (m : Message) (room : ℕ) where
           says-done l = rw (eq-eqb _ _ t, lt-ltb _ _ h, f, i, le-leb _ _ l)
 
 -- the header, then the body: the message, and later bytes stay
-pub length-encode : (m : Message) → m .tag ≡ tagOf (m .body) → length (encode m) ≡ 2 + sizeOf (m .tag)
+length-encode : (m : Message) → m .tag ≡ tagOf (m .body) → length (encode m) ≡ 2 + sizeOf (m .tag)
 unfolding encode
 length-encode m t =
     let z : sizeOf (m .tag) ≡ 11 + widths (layout (m .tag)) = rw t (body-size (m .body)) in

@@ -1,11 +1,10 @@
 -- `writer::check_body` meets its contract.
 -- Assumes nothing.
-use mathlib.Core.Path.{refl, sym, ap, _∙_}
+use mathlib.Core.Path.{refl, sym, _∙_}
 use Rattle.format.specs.Ascii.{'H', 'I', 'J', 'K', 'L', 'N', 'P', 'Q', 'R', 'Y'}
 use Rattle.pen.specs.Encode.{layout}
-use Rattle.records.specs.Values.{values}
-use Rattle.writer.specs.Writing.{textsOf, intraday, checkedOf}
-use Rattle.writer.proofs.Says.{one-text, two-texts, order-checked}
+use Rattle.writer.specs.Writing.{textsOf, intraday}
+use Rattle.writer.proofs.Says.{checked, one-text, two-texts, order-checked}
 use borrow.Author.Needs.{needs}
 use Rattle.writer.proofs.check_body.Statement.{statement}
 use Rattle.writer.proofs.check_body.Tie as tie
@@ -129,86 +128,91 @@ both-requires-3 c κs = search needs
 
 returns : tie.Need-returns
 returns c =
-    order-checked (c .before .before .before .before .before .b .given .0 .0) (c .before .before .before .before .before .b .given .0 .0 .mpid) (c .before .before .before .mpid-tag .ensures) (c .before .before .is-text8 .ensures) (c .before .is-mpid .ensures) (c .both .ensures)
-    ∙ sym (ap (λ b. checkedOf (values b)) (c .before .before .before .before .before .b .given .1))
+    let b = c .before .before .before .before .before .b .given in
+    order-checked (b .0 .0) (b .0 .0 .mpid) (c .before .before .before .mpid-tag .ensures) (c .before .before .is-text8 .ensures) (c .before .is-mpid .ensures) (c .both .ensures)
+    ∙ sym (checked (b .1))
 
 returns-2 : tie.Need-returns-2
 unfolding textsOf intraday layout
-returns-2 c = sym (ap (λ b. checkedOf (values b)) (c .enum-told .given .1))
+returns-2 c = sym (checked (c .enum-told .given .1))
 
 returns-3 : tie.Need-returns-3
 unfolding textsOf intraday layout
-returns-3 c = sym (ap (λ b. checkedOf (values b)) (c .enum-told2 .given .1))
+returns-3 c = sym (checked (c .enum-told2 .given .1))
 
 returns-4 : tie.Need-returns-4
 unfolding textsOf intraday layout
-returns-4 c = one-text 'Q' 8 (c .before .before .b2 .given .0 .0 .stock) (ap (λ b. checkedOf (values b)) (c .before .before .b2 .given .1)) (c .is-text82 .ensures) refl
+returns-4 c = one-text 'Q' 8 (c .before .before .b2 .given .0 .0 .stock) (checked (c .before .before .b2 .given .1)) (c .is-text82 .ensures) refl
 
 returns-5 : tie.Need-returns-5
 unfolding textsOf intraday layout
-returns-5 c = sym (ap (λ b. checkedOf (values b)) (c .enum-told3 .given .1))
+returns-5 c = sym (checked (c .enum-told3 .given .1))
 
 returns-6 : tie.Need-returns-6
 unfolding textsOf intraday layout
-returns-6 c = one-text 'I' 8 (c .before .before .before .b3 .given .0 .0 .stock) (ap (λ b. checkedOf (values b)) (c .before .before .before .b3 .given .1)) (c .before .is-text83 .ensures) (c .is-intraday .ensures)
+returns-6 c =
+    let b = c .before .before .before .b3 .given in
+    one-text 'I' 8 (b .0 .0 .stock) (checked (b .1)) (c .before .is-text83 .ensures) (c .is-intraday .ensures)
 
 returns-7 : tie.Need-returns-7
 unfolding textsOf intraday layout
-returns-7 c = one-text 'K' 8 (c .before .before .b4 .given .0 .0 .stock) (ap (λ b. checkedOf (values b)) (c .before .before .b4 .given .1)) (c .is-text84 .ensures) refl
+returns-7 c = one-text 'K' 8 (c .before .before .b4 .given .0 .0 .stock) (checked (c .before .before .b4 .given .1)) (c .is-text84 .ensures) refl
 
 returns-8 : tie.Need-returns-8
 unfolding textsOf intraday layout
-returns-8 c = one-text 'J' 8 (c .before .before .b5 .given .0 .0) (ap (λ b. checkedOf (values b)) (c .before .before .b5 .given .1)) (c .is-text85 .ensures) refl
+returns-8 c = one-text 'J' 8 (c .before .before .b5 .given .0 .0) (checked (c .before .before .b5 .given .1)) (c .is-text85 .ensures) refl
 
 returns-9 : tie.Need-returns-9
 unfolding textsOf intraday layout
-returns-9 c = sym (ap (λ b. checkedOf (values b)) (c .enum-told4 .given .1))
+returns-9 c = sym (checked (c .enum-told4 .given .1))
 
 returns-10 : tie.Need-returns-10
 unfolding textsOf intraday layout
-returns-10 c = one-text 'P' 8 (c .before .before .b6 .given .0 .0 .stock) (ap (λ b. checkedOf (values b)) (c .before .before .b6 .given .1)) (c .is-text86 .ensures) refl
+returns-10 c = one-text 'P' 8 (c .before .before .b6 .given .0 .0 .stock) (checked (c .before .before .b6 .given .1)) (c .is-text86 .ensures) refl
 
 returns-11 : tie.Need-returns-11
 unfolding textsOf intraday layout
-returns-11 c = sym (ap (λ b. checkedOf (values b)) (c .enum-told5 .given .1))
+returns-11 c = sym (checked (c .enum-told5 .given .1))
 
 returns-12 : tie.Need-returns-12
 unfolding textsOf intraday layout
-returns-12 c = sym (ap (λ b. checkedOf (values b)) (c .enum-told6 .given .1))
+returns-12 c = sym (checked (c .enum-told6 .given .1))
 
 returns-13 : tie.Need-returns-13
 unfolding textsOf intraday layout
-returns-13 c = sym (ap (λ b. checkedOf (values b)) (c .enum-told7 .given .1))
+returns-13 c = sym (checked (c .enum-told7 .given .1))
 
 returns-14 : tie.Need-returns-14
 unfolding textsOf intraday layout
 returns-14 c =
-    two-texts 'L' 4 (c .before .before .before .before .b7 .given .0 .0 .mpid) 8 (c .before .before .before .before .b7 .given .0 .0 .stock) (ap (λ b. checkedOf (values b)) (c .before .before .before .before .b7 .given .1)) (c .before .before .is-text4 .ensures) (c .before .is-text87 .ensures) (c .both2 .ensures)
+    let b = c .before .before .before .before .b7 .given in
+    two-texts 'L' 4 (b .0 .0 .mpid) 8 (b .0 .0 .stock) (checked (b .1)) (c .before .before .is-text4 .ensures) (c .before .is-text87 .ensures) (c .both2 .ensures)
 
 returns-15 : tie.Need-returns-15
 unfolding textsOf intraday layout
-returns-15 c = one-text 'Y' 8 (c .before .before .b8 .given .0 .0) (ap (λ b. checkedOf (values b)) (c .before .before .b8 .given .1)) (c .is-text88 .ensures) refl
+returns-15 c = one-text 'Y' 8 (c .before .before .b8 .given .0 .0) (checked (c .before .before .b8 .given .1)) (c .is-text88 .ensures) refl
 
 returns-16 : tie.Need-returns-16
 unfolding textsOf intraday layout
-returns-16 c = sym (ap (λ b. checkedOf (values b)) (c .enum-told8 .given .1))
+returns-16 c = sym (checked (c .enum-told8 .given .1))
 
 returns-17 : tie.Need-returns-17
 unfolding textsOf intraday layout
-returns-17 c = one-text 'N' 8 (c .before .before .b9 .given .0 .0 .stock) (ap (λ b. checkedOf (values b)) (c .before .before .b9 .given .1)) (c .is-text89 .ensures) refl
+returns-17 c = one-text 'N' 8 (c .before .before .b9 .given .0 .0 .stock) (checked (c .before .before .b9 .given .1)) (c .is-text89 .ensures) refl
 
 returns-18 : tie.Need-returns-18
 unfolding textsOf intraday layout
-returns-18 c = one-text 'R' 8 (c .before .before .b10 .given .0 .0 .stock) (ap (λ b. checkedOf (values b)) (c .before .before .b10 .given .1)) (c .is-text810 .ensures) refl
+returns-18 c = one-text 'R' 8 (c .before .before .b10 .given .0 .0 .stock) (checked (c .before .before .b10 .given .1)) (c .is-text810 .ensures) refl
 
 returns-19 : tie.Need-returns-19
 unfolding textsOf intraday layout
-returns-19 c = sym (ap (λ b. checkedOf (values b)) (c .enum-told9 .given .1))
+returns-19 c = sym (checked (c .enum-told9 .given .1))
 
 returns-20 : tie.Need-returns-20
 unfolding textsOf intraday layout
 returns-20 c =
-    two-texts 'H' 8 (c .before .before .before .before .b11 .given .0 .0) 4 (c .before .before .before .before .b11 .given .0 .1 .1 .0) (ap (λ b. checkedOf (values b)) (c .before .before .before .before .b11 .given .1)) (c .before .before .is-text811 .ensures) (c .before .is-text42 .ensures) (c .both3 .ensures)
+    let b = c .before .before .before .before .b11 .given in
+    two-texts 'H' 8 (b .0 .0) 4 (b .0 .1 .1 .0) (checked (b .1)) (c .before .before .is-text811 .ensures) (c .before .is-text42 .ensures) (c .both3 .ensures)
 
 pub check-body-spec : {M : Type 1} → statement M
 check-body-spec =

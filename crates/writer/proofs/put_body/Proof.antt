@@ -1,6 +1,5 @@
 -- `writer::put_body` meets its contract.
 -- Assumes nothing.
-use denote.Ref.{now}
 use Rattle.writer.proofs.Says.{body-is}
 use borrow.Author.Needs.{needs}
 use Rattle.writer.proofs.put_body.Statement.{statement}
@@ -131,121 +130,121 @@ same-length : tie.Need-same-length
 same-length c = search needs
 
 returns : tie.Need-returns
-returns c = body-is (now (c .before .before .before .before .before .before .before .before .args .buf)) (c .before .before .before .before .before .b .given .1) (c .before .before .put-add-order .ensures)
+returns c = body-is _ (c .before .before .before .before .before .b .given .1) (c .before .before .put-add-order .ensures)
 
 same-length-2 : tie.Need-same-length-2
 same-length-2 c = search needs
 
 returns-2 : tie.Need-returns-2
-returns-2 c = body-is (now (c .before .before .before .before .before .before .before .before .args .buf)) (c .before .before .before .before .before .b2 .given .1) (c .before .before .put-breach .ensures)
+returns-2 c = body-is _ (c .before .before .before .before .before .b2 .given .1) (c .before .before .put-breach .ensures)
 
 same-length-3 : tie.Need-same-length-3
 same-length-3 c = search needs
 
 returns-3 : tie.Need-returns-3
-returns-3 c = body-is (now (c .before .before .before .before .before .before .before .before .args .buf)) (c .before .before .before .before .before .b3 .given .1) (c .before .before .put-broken-trade .ensures)
+returns-3 c = body-is _ (c .before .before .before .before .before .b3 .given .1) (c .before .before .put-broken-trade .ensures)
 
 same-length-4 : tie.Need-same-length-4
 same-length-4 c = search needs
 
 returns-4 : tie.Need-returns-4
-returns-4 c = body-is (now (c .before .before .before .before .before .before .before .before .args .buf)) (c .before .before .before .before .before .b4 .given .1) (c .before .before .put-cross-trade .ensures)
+returns-4 c = body-is _ (c .before .before .before .before .before .b4 .given .1) (c .before .before .put-cross-trade .ensures)
 
 same-length-5 : tie.Need-same-length-5
 same-length-5 c = search needs
 
 returns-5 : tie.Need-returns-5
-returns-5 c = body-is (now (c .before .before .before .before .before .before .before .before .args .buf)) (c .before .before .before .before .before .b5 .given .1) (c .before .before .put-delete-order .ensures)
+returns-5 c = body-is _ (c .before .before .before .before .before .b5 .given .1) (c .before .before .put-delete-order .ensures)
 
 same-length-6 : tie.Need-same-length-6
 same-length-6 c = search needs
 
 returns-6 : tie.Need-returns-6
-returns-6 c = body-is (now (c .before .before .before .before .before .before .before .before .args .buf)) (c .before .before .before .before .before .b6 .given .1) (c .before .before .put-imbalance-indicator .ensures)
+returns-6 c = body-is _ (c .before .before .before .before .before .b6 .given .1) (c .before .before .put-imbalance-indicator .ensures)
 
 same-length-7 : tie.Need-same-length-7
 same-length-7 c = search needs
 
 returns-7 : tie.Need-returns-7
-returns-7 c = body-is (now (c .before .before .before .before .before .before .before .before .args .buf)) (c .before .before .before .before .before .b7 .given .1) (c .before .before .put-ipo-quoting-period .ensures)
+returns-7 c = body-is _ (c .before .before .before .before .before .b7 .given .1) (c .before .before .put-ipo-quoting-period .ensures)
 
 same-length-8 : tie.Need-same-length-8
 same-length-8 c = search needs
 
 returns-8 : tie.Need-returns-8
-returns-8 c = body-is (now (c .before .before .before .before .before .before .before .before .args .buf)) (c .before .before .before .before .before .b8 .given .1) (c .before .before .put-luld-auction-collar .ensures)
+returns-8 c = body-is _ (c .before .before .before .before .before .b8 .given .1) (c .before .before .put-luld-auction-collar .ensures)
 
 same-length-9 : tie.Need-same-length-9
 same-length-9 c = search needs
 
 returns-9 : tie.Need-returns-9
-returns-9 c = body-is (now (c .before .before .before .before .before .before .before .before .args .buf)) (c .before .before .before .before .before .b9 .given .1) (c .before .before .put-mwcb-decline-level .ensures)
+returns-9 c = body-is _ (c .before .before .before .before .before .b9 .given .1) (c .before .before .put-mwcb-decline-level .ensures)
 
 same-length-10 : tie.Need-same-length-10
 same-length-10 c = search needs
 
 returns-10 : tie.Need-returns-10
-returns-10 c = body-is (now (c .before .before .before .before .before .before .before .before .args .buf)) (c .before .before .before .before .before .b10 .given .1) (c .before .before .put-noncross-trade .ensures)
+returns-10 c = body-is _ (c .before .before .before .before .before .b10 .given .1) (c .before .before .put-noncross-trade .ensures)
 
 same-length-11 : tie.Need-same-length-11
 same-length-11 c = search needs
 
 returns-11 : tie.Need-returns-11
-returns-11 c = body-is (now (c .before .before .before .before .before .before .before .before .args .buf)) (c .before .before .before .before .before .b11 .given .1) (c .before .before .put-order-cancelled .ensures)
+returns-11 c = body-is _ (c .before .before .before .before .before .b11 .given .1) (c .before .before .put-order-cancelled .ensures)
 
 same-length-12 : tie.Need-same-length-12
 same-length-12 c = search needs
 
 returns-12 : tie.Need-returns-12
-returns-12 c = body-is (now (c .before .before .before .before .before .before .before .before .args .buf)) (c .before .before .before .before .before .b12 .given .1) (c .before .before .put-order-executed .ensures)
+returns-12 c = body-is _ (c .before .before .before .before .before .b12 .given .1) (c .before .before .put-order-executed .ensures)
 
 same-length-13 : tie.Need-same-length-13
 same-length-13 c = search needs
 
 returns-13 : tie.Need-returns-13
-returns-13 c = body-is (now (c .before .before .before .before .before .before .before .before .args .buf)) (c .before .before .before .before .before .b13 .given .1) (c .before .before .put-order-executed-with-price .ensures)
+returns-13 c = body-is _ (c .before .before .before .before .before .b13 .given .1) (c .before .before .put-order-executed-with-price .ensures)
 
 same-length-14 : tie.Need-same-length-14
 same-length-14 c = search needs
 
 returns-14 : tie.Need-returns-14
-returns-14 c = body-is (now (c .before .before .before .before .before .before .before .before .args .buf)) (c .before .before .before .before .before .b14 .given .1) (c .before .before .put-participant-position .ensures)
+returns-14 c = body-is _ (c .before .before .before .before .before .b14 .given .1) (c .before .before .put-participant-position .ensures)
 
 same-length-15 : tie.Need-same-length-15
 same-length-15 c = search needs
 
 returns-15 : tie.Need-returns-15
-returns-15 c = body-is (now (c .before .before .before .before .before .before .before .before .args .buf)) (c .before .before .before .before .before .b15 .given .1) (c .before .before .put-reg-sho-restriction .ensures)
+returns-15 c = body-is _ (c .before .before .before .before .before .b15 .given .1) (c .before .before .put-reg-sho-restriction .ensures)
 
 same-length-16 : tie.Need-same-length-16
 same-length-16 c = search needs
 
 returns-16 : tie.Need-returns-16
-returns-16 c = body-is (now (c .before .before .before .before .before .before .before .before .args .buf)) (c .before .before .before .before .before .b16 .given .1) (c .before .before .put-replace-order .ensures)
+returns-16 c = body-is _ (c .before .before .before .before .before .b16 .given .1) (c .before .before .put-replace-order .ensures)
 
 same-length-17 : tie.Need-same-length-17
 same-length-17 c = search needs
 
 returns-17 : tie.Need-returns-17
-returns-17 c = body-is (now (c .before .before .before .before .before .before .before .before .args .buf)) (c .before .before .before .before .before .b17 .given .1) (c .before .before .put-retail-price-improvement-indicator .ensures)
+returns-17 c = body-is _ (c .before .before .before .before .before .b17 .given .1) (c .before .before .put-retail-price-improvement-indicator .ensures)
 
 same-length-18 : tie.Need-same-length-18
 same-length-18 c = search needs
 
 returns-18 : tie.Need-returns-18
-returns-18 c = body-is (now (c .before .before .before .before .before .before .before .before .args .buf)) (c .before .before .before .before .before .b18 .given .1) (c .before .before .put-stock-directory .ensures)
+returns-18 c = body-is _ (c .before .before .before .before .before .b18 .given .1) (c .before .before .put-stock-directory .ensures)
 
 same-length-19 : tie.Need-same-length-19
 same-length-19 c = search needs
 
 returns-19 : tie.Need-returns-19
-returns-19 c = body-is (now (c .before .before .before .before .before .before .before .before .args .buf)) (c .before .before .before .before .before .b19 .given .1) (c .before .before .put-system-event .ensures)
+returns-19 c = body-is _ (c .before .before .before .before .before .b19 .given .1) (c .before .before .put-system-event .ensures)
 
 same-length-20 : tie.Need-same-length-20
 same-length-20 c = search needs
 
 returns-20 : tie.Need-returns-20
-returns-20 c = body-is (now (c .before .before .before .before .before .before .before .before .args .buf)) (c .before .before .before .before .before .b20 .given .1) (c .before .before .put-trading-action .ensures)
+returns-20 c = body-is _ (c .before .before .before .before .before .b20 .given .1) (c .before .before .put-trading-action .ensures)
 
 pub put-body-spec : {M : Type 1} → statement M
 put-body-spec =

@@ -22,19 +22,42 @@ check-body-requires c κs = search needs
 
 returns : tie.Need-returns
 unfolding after Fits
-returns c = (says40 (c .before .before .before .before .args .m) (length (now (c .before .before .before .before .args .buf))) (λ e. c .if1 .taken (e ∙ sym (told-tag (c .before .before .before .before .args .m .body) (c .before .before .check-body .ensures)))), refl, tt)
+returns c =
+    let a = c .before .before .before .before .args in
+    (says40 (a .m) (length (now (a .buf))) (λ e. c .if1 .taken (e ∙ sym (told-tag (a .m .body) (c .before .before .check-body .ensures)))), refl, tt)
 
 returns-2 : tie.Need-returns-2
 unfolding after Fits
-returns-2 c = (says41 (c .before .before .before .before .before .before .args .m) (length (now (c .before .before .before .before .before .before .args .buf))) (c .before .before .if1 .left ∙ told-tag (c .before .before .before .before .before .before .args .m .body) (c .before .before .before .before .check-body .ensures)) (leb-true _ _ (c .if2 .taken)), refl, tt)
+returns-2 c =
+    let p = c .before .before .before .before in
+    let a = p .before .before .args in
+    (says41 (a .m) (length (now (a .buf))) (c .before .before .if1 .left ∙ told-tag (a .m .body) (p .check-body .ensures)) (leb-true _ _ (c .if2 .taken)), refl, tt)
 
 returns-3 : tie.Need-returns-3
 unfolding after Fits
-returns-3 c = (says42 (c .before .before .before .before .before .before .before .args .m) (length (now (c .before .before .before .before .before .before .before .args .buf))) (c .before .before .before .if1 .left ∙ told-tag (c .before .before .before .before .before .before .before .args .m .body) (c .before .before .before .before .before .check-body .ensures)) (leb-false _ _ (c .before .if2 .left)) (told-texts (c .before .before .before .before .before .before .before .args .m .body) (c .before .before .before .before .before .check-body .ensures) false (not-true _ (c .if3 .taken))), refl, tt)
+returns-3 c =
+    let p = c .before .before .before .before .before in
+    let a = p .before .before .args in
+    let b = a .m .body in
+    let k = p .check-body .ensures in (
+      says42 (a .m) (length (now (a .buf))) (c .before .before .before .if1 .left ∙ told-tag b k) (leb-false _ _ (c .before .if2 .left))
+          (told-texts b k false (not-true _ (c .if3 .taken))),
+      refl,
+      tt,
+    )
 
 returns-4 : tie.Need-returns-4
 unfolding after Fits
-returns-4 c = (says43 (c .before .before .before .before .before .before .before .before .args .m) (length (now (c .before .before .before .before .before .before .before .before .args .buf))) (c .before .before .before .before .if1 .left ∙ told-tag (c .before .before .before .before .before .before .before .before .args .m .body) (c .before .before .before .before .before .before .check-body .ensures)) (leb-false _ _ (c .before .before .if2 .left)) (told-texts (c .before .before .before .before .before .before .before .before .args .m .body) (c .before .before .before .before .before .before .check-body .ensures) true (not-false _ (c .before .if3 .left))) (told-intraday (c .before .before .before .before .before .before .before .before .args .m .body) (c .before .before .before .before .before .before .check-body .ensures) true (c .if4 .taken)), refl, tt)
+returns-4 c =
+    let p = c .before .before .before .before .before .before in
+    let a = p .before .before .args in
+    let b = a .m .body in
+    let k = p .check-body .ensures in (
+      says43 (a .m) (length (now (a .buf))) (c .before .before .before .before .if1 .left ∙ told-tag b k) (leb-false _ _ (c .before .before .if2 .left))
+          (told-texts b k true (not-false _ (c .before .if3 .left))) (told-intraday b k true (c .if4 .taken)),
+      refl,
+      tt,
+    )
 
 size-of-tag-requires : tie.Need-size-of-tag-requires
 size-of-tag-requires c κs = search needs
@@ -47,7 +70,17 @@ add-n c = search needs
 
 returns-5 : tie.Need-returns-5
 unfolding after Fits
-returns-5 c = (says44 (c .before .before .before .before .before .before .before .before .before .before .args .m) (length (now (c .before .before .before .before .before .before .before .before .before .before .args .buf))) (c .before .before .before .before .before .before .if1 .left ∙ told-tag (c .before .before .before .before .before .before .before .before .before .before .args .m .body) (c .before .before .before .before .before .before .before .before .check-body .ensures)) (leb-false _ _ (c .before .before .before .before .if2 .left)) (told-texts (c .before .before .before .before .before .before .before .before .before .before .args .m .body) (c .before .before .before .before .before .before .before .before .check-body .ensures) true (not-false _ (c .before .before .before .if3 .left))) (told-intraday (c .before .before .before .before .before .before .before .before .before .before .args .m .body) (c .before .before .before .before .before .before .before .before .check-body .ensures) false (c .before .before .if4 .left)) (omega (arith, c .before .size-of-tag .ensures)), refl, tt)
+returns-5 c =
+    let q = c .before .before in
+    let p = q .before .before .before .before .before .before in
+    let a = p .before .before .args in
+    let b = a .m .body in
+    let k = p .check-body .ensures in (
+      says44 (a .m) (length (now (a .buf))) (q .before .before .before .before .if1 .left ∙ told-tag b k) (leb-false _ _ (q .before .before .if2 .left))
+          (told-texts b k true (not-false _ (q .before .if3 .left))) (told-intraday b k false (q .if4 .left)) (omega (arith, c .before .size-of-tag .ensures)),
+      refl,
+      tt,
+    )
 
 put-header-requires : tie.Need-put-header-requires
 put-header-requires c κs = leb-false _ _ (c .before .before .before .before .before .if2 .left)
@@ -61,16 +94,22 @@ same-length c = search needs
 returns-6 : tie.Need-returns-6
 unfolding after Fits
 returns-6 c =
-    let m = c .before .before .before .before .before .before .before .before .before .before .before .before .before .before .before .before .before .before .args .m in
-    let s = now (c .before .before .before .before .before .before .before .before .before .before .before .before .before .before .before .before .before .before .args .buf) in
-    let q : c .before .before .before .before .before .before .before .before .before .size-of-tag .result ≡ sizeOf (m .tag) = c .before .before .before .before .before .before .before .before .before .size-of-tag .ensures in
-    let n : 2 + c .before .before .before .before .before .before .before .before .before .size-of-tag .result ≡ 2 + sizeOf (m .tag) = ap (λ k. 2 + k) q in
-    let t : m .tag ≡ tagOf (m .body) = c .before .before .before .before .before .before .before .before .before .before .before .before .before .before .if1 .left ∙ told-tag (c .before .before .before .before .before .before .before .before .before .before .before .before .before .before .before .before .before .before .args .m .body) (c .before .before .before .before .before .before .before .before .before .before .before .before .before .before .before .before .check-body .ensures) in
+    let r = c .before .before .before .before .before .before .before .before .before .size-of-tag in
+    let q = c .before .before .before .before .before .before .before .before .before .before in
+    let p = q .before .before .before .before .before .before in
+    let m = p .before .before .args .m in
+    let s = now (p .before .before .args .buf) in
+    let k = p .check-body .ensures in
+    let n : 2 + r .result ≡ 2 + sizeOf (m .tag) = ap (λ k. 2 + k) (r .ensures) in
+    let t : m .tag ≡ tagOf (m .body) = q .before .before .before .before .if1 .left ∙ told-tag (m .body) k in
     let l : 2 + sizeOf (m .tag) ≤ length s = omega arith in
     let h = c .before .before .before .before .before .before .put-header .ensures in (
-      ap Done n ∙ says-done m (length s) t (leb-false _ _ (c .before .before .before .before .before .before .before .before .before .before .before .before .if2 .left)) (told-texts (c .before .before .before .before .before .before .before .before .before .before .before .before .before .before .before .before .before .before .args .m .body) (c .before .before .before .before .before .before .before .before .before .before .before .before .before .before .before .before .check-body .ensures) true (not-false _ (c .before .before .before .before .before .before .before .before .before .before .before .if3 .left))) (told-intraday (c .before .before .before .before .before .before .before .before .before .before .before .before .before .before .before .before .before .before .args .m .body) (c .before .before .before .before .before .before .before .before .before .before .before .before .before .before .before .before .check-body .ensures) false (c .before .before .before .before .before .before .before .before .before .before .if4 .left)) l,
-      all-put m s t l (h .0 ∙ ap (λ k. putRow s 0 header (k ∷ drop 1 (headOf m))) q) (c .before .before .put-body .ensures .0) ∙ ap (λ k. encode m ++ drop k s) (sym n),
-      (subst (λ k. Sized header (k ∷ drop 1 (headOf m))) q (h .1), c .before .before .put-body .ensures .1),
+      ap Done n
+          ∙ says-done m (length s) t (leb-false _ _ (q .before .before .if2 .left)) (told-texts (m .body) k true (not-false _ (q .before .if3 .left)))
+          (told-intraday (m .body) k false (q .if4 .left)) l,
+      all-put m s t l (h .0 ∙ ap (λ k. putRow s 0 header (k ∷ drop 1 (headOf m))) (r .ensures)) (c .before .before .put-body .ensures .0)
+          ∙ ap (λ k. encode m ++ drop k s) (sym n),
+      (subst (λ k. Sized header (k ∷ drop 1 (headOf m))) (r .ensures) (h .1), c .before .before .put-body .ensures .1),
     )
 
 pub write-spec : {M : Type 1} → statement M
