@@ -23,6 +23,7 @@ sets-append l i (x ∷ xs) b =
     sets-append (set l i x) (suc i) xs b
     ∙ ap (λ n. sets (sets (set l i x) (suc i) xs) n b) (suc-add i (length xs) ∙ sym (add-suc i (length xs)))
 
+-- the low part of a number, in the base P * 256, has the number's last byte and the low part, in the base P, of the rest
 low-digits : (P v : ℕ) → 0 < P → (v % (P * 256) / 256 ≡ v / 256 % P) × (v % (P * 256) % 256 ≡ v % 256)
 low-digits P v p =
     let n : ℕ = P * 256 in
@@ -51,6 +52,7 @@ two-parts a (suc b) v =
     (sym (append-assoc (digits a (v / 256 / 256 ^ b)) (digits b (v / 256 % 256 ^ b)) (v % 256 ∷ []))
     ∙ ap (λ l. l ++ (v % 256 ∷ [])) (two-parts a b (v / 256)))
 
+-- b bytes hold the low part of a number and no more
 pub digits-low : (b v : ℕ) → digits b (v % 256 ^ b) ≡ digits b v
 unfolding digits
 digits-low b v = two-parts 0 b v ∙ ap (λ n. digits n v) (zero-add b)

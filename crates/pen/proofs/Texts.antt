@@ -16,6 +16,7 @@ use Rattle.format.proofs.Fields.{field-judged}
 use Rattle.pen.specs.Encode.{digits}
 use Rattle.pen.proofs.Digits.{length-digits}
 
+-- the field that a text's bytes are, in a buffer of their length
 text-of : (w v : ℕ) (l : List ℕ) → length l ≡ w
     → field (text w) (sets l 0 (digits w v)) 0 ≡ placed 0 (cond (wellFormed (digits w v)) (fine (be (digits w v) ∷ [])) (wrong 3 0))
 unfolding judge
@@ -27,6 +28,7 @@ text-of w v l h =
     let k : 0 + w ≤ length (sets l 0 d) = rw length-sets (omega arith) in
     field-judged (text w) (sets l 0 d) 0 k ∙ rw p
 
+-- whether it has a value or a fault tells whether the text is UTF-8
 found-fine : (b : Bool) (x vs : List ℕ) → placed 0 (cond b (fine x) (wrong 3 0)) ≡ got vs → true ≡ b
 found-fine true x vs e = refl
 found-fine false x vs e = let z : _≡_ {A = ℕ} 0 1 = cc in absurd (omega arith)
@@ -36,7 +38,8 @@ found-bad true x Short e = let z : _≡_ {A = ℕ} 0 1 = cc in absurd (omega ari
 found-bad true x (Refused n p) e = let z : _≡_ {A = ℕ} 0 1 = cc in absurd (omega arith)
 found-bad false x f e = refl
 
-pub text-yes : (w v : ℕ) (l : List ℕ) {s vs : List ℕ} → length l ≡ w → s ≡ sets l 0 (digits w v) → field (text w) s 0 ≡ got vs → true ≡ wellFormed (digits w v)
+pub text-yes : (w v : ℕ) (l : List ℕ) {s vs : List ℕ} → length l ≡ w → s ≡ sets l 0 (digits w v) → field (text w) s 0 ≡ got vs
+    → true ≡ wellFormed (digits w v)
 text-yes w v l {vs = vs} h q e =
     found-fine (wellFormed (digits w v)) (be (digits w v) ∷ []) vs (sym (text-of w v l h) ∙ sym (ap (λ t. field (text w) t 0) q) ∙ e)
 

@@ -13,12 +13,14 @@ use Rattle.records.specs.declared.Mpid.the-variants.{Absent, Present}
 use Rattle.records.specs.Values.{orderValues}
 use Rattle.put_orders.specs.Mpids.{PutMpid}
 
+-- the two arms of `put_mpid`
 pub put-none : (s : List ℕ) (p : Mpid) → p ≡ Absent → PutMpid s p s
 put-none s p q = subst (λ x. PutMpid s x s) (sym q) refl
 
 pub put-some : (s : List ℕ) (p : Mpid) (v : ℕ) {u : List ℕ} → p ≡ Present v → (u ≡ putIn s 38 (digits 4 v)) × (v < 256 ^ 4) → PutMpid s p u
 put-some s p v {u} q e = subst (λ x. PutMpid s x u) (sym q) e
 
+-- the fields that A has, then the mpid
 pub order-puts : (s : List ℕ) (a : AddOrder) (p : Mpid) {t u : List ℕ} → Puts s 13 order (drop 1 (orderValues a Absent)) t → PutMpid t p u
     → PutBody s (orderValues a p) u
 unfolding layout
