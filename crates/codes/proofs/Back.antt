@@ -1,9 +1,12 @@
--- A name is determined by its byte: each byte has its name back.
+-- A name is determined by its byte: each byte has its name back. So what a test finds of the names in a list holds of every name.
 -- Assumes nothing.
-use mathlib.Core.Path.{_≡_, refl}
-use mathlib.Core.Bool.{Bool, true, false}
-use lib.Dec.{eqb}
+use Prim.Native.Nat.{ℕ}
+use mathlib.Core.Path.{_≡_, refl, subst}
+use mathlib.Core.Bool.{Bool, true, false, cond, _&&_}
+use mathlib.Core.List.{List, [], _∷_}
+use lib.Dec.{T, eqb}
 use Rattle.format.specs.Ascii.{'Y', 'P'}
+use Rattle.format.proofs.Tests.{both, is-true}
 use Rattle.codes.specs.declared.EventCode.{EventCode}
 use Rattle.codes.specs.declared.EventCode.the-variants as EventCode·
 use Rattle.codes.specs.declared.MarketCategory.{MarketCategory}
@@ -38,7 +41,31 @@ use Rattle.codes.specs.declared.Flag.{Flag}
 use Rattle.codes.specs.declared.Flag.the-variants as Flag·
 use Rattle.codes.specs.declared.IssueSubType.{IssueSubType}
 use Rattle.codes.specs.declared.IssueSubType.the-variants as IssueSubType·
-use Rattle.codes.specs.Names.{subtypeByte, subtypeFrom, eventByte, eventFrom, categoryByte, categoryFrom, statusByte, statusFrom, classByte, classFrom, tierByte, tierFrom, makerModeByte, makerModeFrom, participantStateByte, participantStateFrom, actionByte, actionFrom, tradingStateByte, tradingStateFrom, sideByte, sideFrom, directionByte, directionFrom, crossByte, crossFrom, qualifierByte, qualifierFrom, levelByte, levelFrom, interestByte, interestFrom, flagByte, flagFrom, yesNoByte, authenticityByte}
+use Rattle.codes.specs.Names.{nameOf, subtypeByte, subtypeFrom, eventByte, eventFrom, categoryByte, categoryFrom, statusByte, statusFrom, classByte, classFrom, tierByte, tierFrom, makerModeByte, makerModeFrom, participantStateByte, participantStateFrom, actionByte, actionFrom, tradingStateByte, tradingStateFrom, sideByte, sideFrom, directionByte, directionFrom, crossByte, crossFrom, qualifierByte, qualifierFrom, levelByte, levelFrom, interestByte, interestFrom, flagByte, flagFrom, yesNoByte, authenticityByte}
+
+-- the bytes of these names pass a test
+abbrev pub pass : {A : Type 0} → (ℕ → Bool) → (A → ℕ) → List A → Bool
+pass test byte [] = true
+pass test byte (x ∷ xs) = test (byte x) && pass test byte xs
+
+named-passes : {A : Type 0} (test : ℕ → Bool) (byte : A → ℕ) (xs : List A) (last : A) (b : ℕ) → T (test (byte last)) → T (pass test byte xs)
+    → test (byte (nameOf byte xs last b)) ≡ true
+named-passes test byte [] last b l t = is-true (test (byte last)) l
+named-passes test byte (x ∷ xs) last b l t = go (eqb b (byte x)) (named-passes test byte xs last b l (h .1))
+  where
+    h : T (test (byte x)) × T (pass test byte xs)
+    h = both (test (byte x)) (pass test byte xs) t
+
+    go : (q : Bool) → test (byte (nameOf byte xs last b)) ≡ true → test (byte (cond q x (nameOf byte xs last b))) ≡ true
+    go true r = is-true (test (byte x)) (h .0)
+    go false r = r
+
+-- every name is one that a byte has: its own
+pub all-pass : {A : Type 0} (test : ℕ → Bool) (byte : A → ℕ) (xs : List A) (last : A) → ((x : A) → nameOf byte xs last (byte x) ≡ x)
+    → T (pass test byte (last ∷ xs)) → (x : A) → test (byte x) ≡ true
+all-pass test byte xs last back t x =
+    let h = both (test (byte last)) (pass test byte xs) t in
+    subst (λ y. test (byte y) ≡ true) (back x) (named-passes test byte xs last (byte x) (h .0) (h .1))
 
 pub event-back : (x : EventCode) → eventFrom (eventByte x) ≡ x
 unfolding eventFrom eventByte

@@ -11,7 +11,7 @@ use lib.ListN.{length}
 use borrow.Author.Tests.{eqb-true}
 use Rattle.format.specs.Ascii.{'Y', 'N', 'P', 'M', '␣'}
 use Rattle.format.specs.Codes.{side, yesNo, tradingState, direction, imbalanceCross, qualifier, makerMode, participantState, interest, cross, category, status, class, authenticity, flag, tier, etpFlag, event, level, action, subtypes}
-use Rattle.format.specs.Layout.{num, code, etp, subtype, be, part, member, asYes, got, short, refused, fine, wrong, judge, placed, field}
+use Rattle.format.specs.Layout.{Kind, num, code, etp, subtype, be, part, member, asYes, got, short, refused, fine, wrong, judge, placed, field}
 use Rattle.format.specs.Meaning.{faultM}
 use Rattle.format.specs.declared.Fault.{Fault}
 use Rattle.format.specs.declared.Fault.the-variants.{Short, Refused}
@@ -62,102 +62,90 @@ legal set s at {b} e =
     let q : n ≡ b = cc (h .1) in
     rw q at (h .0)
 
-named : {A : Type 0} (byte : A → ℕ) (from : ℕ → A) (set s : List ℕ) (at : ℕ) {b : ℕ} {r : A} → T (backs byte from set) → field (code set) s at ≡ got (b ∷ [])
-    → r ≡ from b → field (code set) s at ≡ got (byte r ∷ [])
-named byte from set s at {b} t e q = e ∙ ap (λ n. got (n ∷ [])) (sym (ap byte q ∙ back byte from set b t (legal set s at e)))
+-- a field that gave the byte b, whose name is r, gave the byte of r
+abbrev pub Named : {A : Type 0} → (A → ℕ) → (ℕ → A) → Kind → List ℕ → ℕ → ℕ → A → Type 0
+Named byte from k s at b r = field k s at ≡ got (b ∷ []) → r ≡ from b → field k s at ≡ got (byte r ∷ [])
 
-pub side-named : (s : List ℕ) (at : ℕ) {b : ℕ} {r : Side} → field (code side) s at ≡ got (b ∷ []) → r ≡ sideFrom b
-    → field (code side) s at ≡ got (sideByte r ∷ [])
+named-by : {A : Type 0} (byte : A → ℕ) (from : ℕ → A) (set : List ℕ) (k : Kind) (s : List ℕ) (at : ℕ) {b : ℕ} {r : A} → T (backs byte from set)
+    → (field k s at ≡ got (b ∷ []) → member b set ≡ true) → Named byte from k s at b r
+named-by byte from set k s at {b} t l e q = e ∙ ap (λ n. got (n ∷ [])) (sym (ap byte q ∙ back byte from set b t (l e)))
+
+named : {A : Type 0} (byte : A → ℕ) (from : ℕ → A) (set s : List ℕ) (at : ℕ) {b : ℕ} {r : A} → T (backs byte from set) → Named byte from (code set) s at b r
+named byte from set s at t = named-by byte from set (code set) s at t (legal set s at)
+
+pub side-named : (s : List ℕ) (at : ℕ) {b : ℕ} {r : Side} → Named sideByte sideFrom (code side) s at b r
 unfolding side sideByte sideFrom
 side-named s at = named sideByte sideFrom side s at tt
 
-pub tradingState-named : (s : List ℕ) (at : ℕ) {b : ℕ} {r : TradingState} → field (code tradingState) s at ≡ got (b ∷ []) → r ≡ tradingStateFrom b
-    → field (code tradingState) s at ≡ got (tradingStateByte r ∷ [])
+pub tradingState-named : (s : List ℕ) (at : ℕ) {b : ℕ} {r : TradingState} → Named tradingStateByte tradingStateFrom (code tradingState) s at b r
 unfolding tradingState tradingStateByte tradingStateFrom
 tradingState-named s at = named tradingStateByte tradingStateFrom tradingState s at tt
 
-pub direction-named : (s : List ℕ) (at : ℕ) {b : ℕ} {r : ImbalanceDirection} → field (code direction) s at ≡ got (b ∷ []) → r ≡ directionFrom b
-    → field (code direction) s at ≡ got (directionByte r ∷ [])
+pub direction-named : (s : List ℕ) (at : ℕ) {b : ℕ} {r : ImbalanceDirection} → Named directionByte directionFrom (code direction) s at b r
 unfolding direction directionByte directionFrom
 direction-named s at = named directionByte directionFrom direction s at tt
 
-pub imbalanceCross-named : (s : List ℕ) (at : ℕ) {b : ℕ} {r : CrossType} → field (code imbalanceCross) s at ≡ got (b ∷ []) → r ≡ crossFrom b
-    → field (code imbalanceCross) s at ≡ got (crossByte r ∷ [])
+pub imbalanceCross-named : (s : List ℕ) (at : ℕ) {b : ℕ} {r : CrossType} → Named crossByte crossFrom (code imbalanceCross) s at b r
 unfolding imbalanceCross crossByte crossFrom
 imbalanceCross-named s at = named crossByte crossFrom imbalanceCross s at tt
 
-pub qualifier-named : (s : List ℕ) (at : ℕ) {b : ℕ} {r : IpoReleaseQualifier} → field (code qualifier) s at ≡ got (b ∷ []) → r ≡ qualifierFrom b
-    → field (code qualifier) s at ≡ got (qualifierByte r ∷ [])
+pub qualifier-named : (s : List ℕ) (at : ℕ) {b : ℕ} {r : IpoReleaseQualifier} → Named qualifierByte qualifierFrom (code qualifier) s at b r
 unfolding qualifier qualifierByte qualifierFrom
 qualifier-named s at = named qualifierByte qualifierFrom qualifier s at tt
 
-pub makerMode-named : (s : List ℕ) (at : ℕ) {b : ℕ} {r : MarketMakerMode} → field (code makerMode) s at ≡ got (b ∷ []) → r ≡ makerModeFrom b
-    → field (code makerMode) s at ≡ got (makerModeByte r ∷ [])
+pub makerMode-named : (s : List ℕ) (at : ℕ) {b : ℕ} {r : MarketMakerMode} → Named makerModeByte makerModeFrom (code makerMode) s at b r
 unfolding makerMode makerModeByte makerModeFrom
 makerMode-named s at = named makerModeByte makerModeFrom makerMode s at tt
 
-pub participantState-named : (s : List ℕ) (at : ℕ) {b : ℕ} {r : MarketParticipantState} → field (code participantState) s at ≡ got (b ∷ []) → r ≡ participantStateFrom b
-    → field (code participantState) s at ≡ got (participantStateByte r ∷ [])
+pub participantState-named : (s : List ℕ) (at : ℕ) {b : ℕ} {r : MarketParticipantState} → Named participantStateByte participantStateFrom (code participantState) s at b r
 unfolding participantState participantStateByte participantStateFrom
 participantState-named s at = named participantStateByte participantStateFrom participantState s at tt
 
-pub interest-named : (s : List ℕ) (at : ℕ) {b : ℕ} {r : InterestFlag} → field (code interest) s at ≡ got (b ∷ []) → r ≡ interestFrom b
-    → field (code interest) s at ≡ got (interestByte r ∷ [])
+pub interest-named : (s : List ℕ) (at : ℕ) {b : ℕ} {r : InterestFlag} → Named interestByte interestFrom (code interest) s at b r
 unfolding interest interestByte interestFrom
 interest-named s at = named interestByte interestFrom interest s at tt
 
-pub cross-named : (s : List ℕ) (at : ℕ) {b : ℕ} {r : CrossType} → field (code cross) s at ≡ got (b ∷ []) → r ≡ crossFrom b
-    → field (code cross) s at ≡ got (crossByte r ∷ [])
+pub cross-named : (s : List ℕ) (at : ℕ) {b : ℕ} {r : CrossType} → Named crossByte crossFrom (code cross) s at b r
 unfolding cross crossByte crossFrom
 cross-named s at = named crossByte crossFrom cross s at tt
 
-pub category-named : (s : List ℕ) (at : ℕ) {b : ℕ} {r : MarketCategory} → field (code category) s at ≡ got (b ∷ []) → r ≡ categoryFrom b
-    → field (code category) s at ≡ got (categoryByte r ∷ [])
+pub category-named : (s : List ℕ) (at : ℕ) {b : ℕ} {r : MarketCategory} → Named categoryByte categoryFrom (code category) s at b r
 unfolding category categoryByte categoryFrom
 category-named s at = named categoryByte categoryFrom category s at tt
 
-pub status-named : (s : List ℕ) (at : ℕ) {b : ℕ} {r : FinancialStatus} → field (code status) s at ≡ got (b ∷ []) → r ≡ statusFrom b
-    → field (code status) s at ≡ got (statusByte r ∷ [])
+pub status-named : (s : List ℕ) (at : ℕ) {b : ℕ} {r : FinancialStatus} → Named statusByte statusFrom (code status) s at b r
 unfolding status statusByte statusFrom
 status-named s at = named statusByte statusFrom status s at tt
 
-pub class-named : (s : List ℕ) (at : ℕ) {b : ℕ} {r : IssueClassification} → field (code class) s at ≡ got (b ∷ []) → r ≡ classFrom b
-    → field (code class) s at ≡ got (classByte r ∷ [])
+pub class-named : (s : List ℕ) (at : ℕ) {b : ℕ} {r : IssueClassification} → Named classByte classFrom (code class) s at b r
 unfolding class classByte classFrom
 class-named s at = named classByte classFrom class s at tt
 
-pub flag-named : (s : List ℕ) (at : ℕ) {b : ℕ} {r : Flag} → field (code flag) s at ≡ got (b ∷ []) → r ≡ flagFrom b
-    → field (code flag) s at ≡ got (flagByte r ∷ [])
+pub flag-named : (s : List ℕ) (at : ℕ) {b : ℕ} {r : Flag} → Named flagByte flagFrom (code flag) s at b r
 unfolding flag flagByte flagFrom
 flag-named s at = named flagByte flagFrom flag s at tt
 
-pub tier-named : (s : List ℕ) (at : ℕ) {b : ℕ} {r : LuldRefPriceTier} → field (code tier) s at ≡ got (b ∷ []) → r ≡ tierFrom b
-    → field (code tier) s at ≡ got (tierByte r ∷ [])
+pub tier-named : (s : List ℕ) (at : ℕ) {b : ℕ} {r : LuldRefPriceTier} → Named tierByte tierFrom (code tier) s at b r
 unfolding tier tierByte tierFrom
 tier-named s at = named tierByte tierFrom tier s at tt
 
-pub event-named : (s : List ℕ) (at : ℕ) {b : ℕ} {r : EventCode} → field (code event) s at ≡ got (b ∷ []) → r ≡ eventFrom b
-    → field (code event) s at ≡ got (eventByte r ∷ [])
+pub event-named : (s : List ℕ) (at : ℕ) {b : ℕ} {r : EventCode} → Named eventByte eventFrom (code event) s at b r
 unfolding event eventByte eventFrom
 event-named s at = named eventByte eventFrom event s at tt
 
-pub level-named : (s : List ℕ) (at : ℕ) {b : ℕ} {r : LevelBreached} → field (code level) s at ≡ got (b ∷ []) → r ≡ levelFrom b
-    → field (code level) s at ≡ got (levelByte r ∷ [])
+pub level-named : (s : List ℕ) (at : ℕ) {b : ℕ} {r : LevelBreached} → Named levelByte levelFrom (code level) s at b r
 unfolding level levelByte levelFrom
 level-named s at = named levelByte levelFrom level s at tt
 
-pub action-named : (s : List ℕ) (at : ℕ) {b : ℕ} {r : RegShoAction} → field (code action) s at ≡ got (b ∷ []) → r ≡ actionFrom b
-    → field (code action) s at ≡ got (actionByte r ∷ [])
+pub action-named : (s : List ℕ) (at : ℕ) {b : ℕ} {r : RegShoAction} → Named actionByte actionFrom (code action) s at b r
 unfolding action actionByte actionFrom
 action-named s at = named actionByte actionFrom action s at tt
 
-pub yesNo-named : (s : List ℕ) (at : ℕ) {b : ℕ} {r : Bool} → field (code yesNo) s at ≡ got (b ∷ []) → r ≡ eqb b 'Y'
-    → field (code yesNo) s at ≡ got (yesNoByte r ∷ [])
+pub yesNo-named : (s : List ℕ) (at : ℕ) {b : ℕ} {r : Bool} → Named yesNoByte (λ b. eqb b 'Y') (code yesNo) s at b r
 unfolding yesNo yesNoByte
 yesNo-named s at = named yesNoByte (λ b. eqb b 'Y') yesNo s at tt
 
-pub authenticity-named : (s : List ℕ) (at : ℕ) {b : ℕ} {r : Bool} → field (code authenticity) s at ≡ got (b ∷ []) → r ≡ eqb b 'P'
-    → field (code authenticity) s at ≡ got (authenticityByte r ∷ [])
+pub authenticity-named : (s : List ℕ) (at : ℕ) {b : ℕ} {r : Bool} → Named authenticityByte (λ b. eqb b 'P') (code authenticity) s at b r
 unfolding authenticity authenticityByte
 authenticity-named s at = named authenticityByte (λ b. eqb b 'P') authenticity s at tt
 
@@ -178,9 +166,9 @@ etp-legal s at {y} e =
     let q : asYes n ≡ y = cc (h .1) in
     rw q at (etp-flag n (h .0))
 
-pub etp-named : (s : List ℕ) (at : ℕ) {y : ℕ} {r : Flag} → field etp s at ≡ got (y ∷ []) → r ≡ flagFrom y → field etp s at ≡ got (flagByte r ∷ [])
+pub etp-named : (s : List ℕ) (at : ℕ) {y : ℕ} {r : Flag} → Named flagByte flagFrom etp s at y r
 unfolding flag flagByte flagFrom
-etp-named s at {y} e q = e ∙ ap (λ n. got (n ∷ [])) (sym (ap flagByte q ∙ back flagByte flagFrom flag y tt (etp-legal s at e)))
+etp-named s at = named-by flagByte flagFrom flag etp s at tt (etp-legal s at)
 
 -- the subtype: a number of two bytes, judged
 pub subtype-got : (s : List ℕ) (at : ℕ) {v : ℕ} → field (num 2) s at ≡ got (v ∷ []) → field subtype s at ≡ subtypeOf v at

@@ -47,7 +47,7 @@ use Rattle.codes.specs.declared.IssueSubType.the-variants as IssueSubTyp
 use Rattle.codes.specs.declared.SubtypeRead.{SubtypeRead}
 use Rattle.codes.specs.declared.SubtypeRead.the-variants.{Got as GotSubtype, No as NoSubtype}
 
--- the name of a byte: the first of these that it stands for, else the last name
+-- the name of a byte: the first of these that it stands for, else the last name. So each list below has the names of its enum but the last
 abbrev pub nameOf : {A : Type 0} → (A → ℕ) → List A → A → ℕ → A
 nameOf byte [] last b = last
 nameOf byte (x ∷ xs) last b = cond (eqb b (byte x)) x (nameOf byte xs last b)
@@ -60,16 +60,13 @@ eventByte EventCode·.EndOfMarketHours = 'M'
 eventByte EventCode·.EndOfSystemHours = 'E'
 eventByte EventCode·.EndOfMessages = 'C'
 
+abbrev pub eventNames : List EventCode
+eventNames =
+    EventCode·.StartOfMessages ∷ EventCode·.StartOfSystemHours ∷ EventCode·.StartOfMarketHours ∷ EventCode·.EndOfMarketHours
+    ∷ EventCode·.EndOfSystemHours ∷ []
+
 unfoldable pub eventFrom : ℕ → EventCode
-eventFrom b =
-    nameOf eventByte
-    (EventCode·.StartOfMessages
-    ∷ EventCode·.StartOfSystemHours
-    ∷ EventCode·.StartOfMarketHours
-    ∷ EventCode·.EndOfMarketHours
-    ∷ EventCode·.EndOfSystemHours
-    ∷ [])
-    EventCode·.EndOfMessages b
+eventFrom b = nameOf eventByte eventNames EventCode·.EndOfMessages b
 
 unfoldable pub categoryByte : MarketCategory → ℕ
 categoryByte MarketCategory·.NasdaqGlobalSelect = 'Q'
@@ -82,19 +79,13 @@ categoryByte MarketCategory·.BatsZExchange = 'Z'
 categoryByte MarketCategory·.InvestorsExchange = 'V'
 categoryByte MarketCategory·.Unavailable = '␣'
 
+abbrev pub categoryNames : List MarketCategory
+categoryNames =
+    MarketCategory·.NasdaqGlobalSelect ∷ MarketCategory·.NasdaqGlobalMarket ∷ MarketCategory·.NasdaqCapitalMarket ∷ MarketCategory·.Nyse
+    ∷ MarketCategory·.NyseMkt ∷ MarketCategory·.NyseArca ∷ MarketCategory·.BatsZExchange ∷ MarketCategory·.InvestorsExchange ∷ []
+
 unfoldable pub categoryFrom : ℕ → MarketCategory
-categoryFrom b =
-    nameOf categoryByte
-    (MarketCategory·.NasdaqGlobalSelect
-    ∷ MarketCategory·.NasdaqGlobalMarket
-    ∷ MarketCategory·.NasdaqCapitalMarket
-    ∷ MarketCategory·.Nyse
-    ∷ MarketCategory·.NyseMkt
-    ∷ MarketCategory·.NyseArca
-    ∷ MarketCategory·.BatsZExchange
-    ∷ MarketCategory·.InvestorsExchange
-    ∷ [])
-    MarketCategory·.Unavailable b
+categoryFrom b = nameOf categoryByte categoryNames MarketCategory·.Unavailable b
 
 unfoldable pub statusByte : FinancialStatus → ℕ
 statusByte FinancialStatus·.Normal = 'N'
@@ -109,21 +100,14 @@ statusByte FinancialStatus·.DeficientDelinquentBankrupt = 'K'
 statusByte FinancialStatus·.EtpSuspended = 'C'
 statusByte FinancialStatus·.Unavailable = '␣'
 
+abbrev pub statusNames : List FinancialStatus
+statusNames =
+    FinancialStatus·.Normal ∷ FinancialStatus·.Deficient ∷ FinancialStatus·.Delinquent ∷ FinancialStatus·.Bankrupt ∷ FinancialStatus·.Suspended
+    ∷ FinancialStatus·.DeficientBankrupt ∷ FinancialStatus·.DeficientDelinquent ∷ FinancialStatus·.DelinquentBankrupt
+    ∷ FinancialStatus·.DeficientDelinquentBankrupt ∷ FinancialStatus·.EtpSuspended ∷ []
+
 unfoldable pub statusFrom : ℕ → FinancialStatus
-statusFrom b =
-    nameOf statusByte
-    (FinancialStatus·.Normal
-    ∷ FinancialStatus·.Deficient
-    ∷ FinancialStatus·.Delinquent
-    ∷ FinancialStatus·.Bankrupt
-    ∷ FinancialStatus·.Suspended
-    ∷ FinancialStatus·.DeficientBankrupt
-    ∷ FinancialStatus·.DeficientDelinquent
-    ∷ FinancialStatus·.DelinquentBankrupt
-    ∷ FinancialStatus·.DeficientDelinquentBankrupt
-    ∷ FinancialStatus·.EtpSuspended
-    ∷ [])
-    FinancialStatus·.Unavailable b
+statusFrom b = nameOf statusByte statusNames FinancialStatus·.Unavailable b
 
 unfoldable pub classByte : IssueClassification → ℕ
 classByte IssueClassification·.AmericanDepositaryShare = 'A'
@@ -143,34 +127,27 @@ classByte IssueClassification·.Unit = 'U'
 classByte IssueClassification·.UnitsPerBenifInt = 'V'
 classByte IssueClassification·.Warrant = 'W'
 
+abbrev pub classNames : List IssueClassification
+classNames =
+    IssueClassification·.AmericanDepositaryShare ∷ IssueClassification·.Bond ∷ IssueClassification·.CommonStock
+    ∷ IssueClassification·.DepositoryReceipt ∷ IssueClassification·.A144 ∷ IssueClassification·.LimitedPartnership ∷ IssueClassification·.Notes
+    ∷ IssueClassification·.OrdinaryShare ∷ IssueClassification·.PreferredStock ∷ IssueClassification·.OtherSecurities ∷ IssueClassification·.Right
+    ∷ IssueClassification·.SharesOfBeneficialInterest ∷ IssueClassification·.ConvertibleDebenture ∷ IssueClassification·.Unit
+    ∷ IssueClassification·.UnitsPerBenifInt ∷ []
+
 unfoldable pub classFrom : ℕ → IssueClassification
-classFrom b =
-    nameOf classByte
-    (IssueClassification·.AmericanDepositaryShare
-    ∷ IssueClassification·.Bond
-    ∷ IssueClassification·.CommonStock
-    ∷ IssueClassification·.DepositoryReceipt
-    ∷ IssueClassification·.A144
-    ∷ IssueClassification·.LimitedPartnership
-    ∷ IssueClassification·.Notes
-    ∷ IssueClassification·.OrdinaryShare
-    ∷ IssueClassification·.PreferredStock
-    ∷ IssueClassification·.OtherSecurities
-    ∷ IssueClassification·.Right
-    ∷ IssueClassification·.SharesOfBeneficialInterest
-    ∷ IssueClassification·.ConvertibleDebenture
-    ∷ IssueClassification·.Unit
-    ∷ IssueClassification·.UnitsPerBenifInt
-    ∷ [])
-    IssueClassification·.Warrant b
+classFrom b = nameOf classByte classNames IssueClassification·.Warrant b
 
 unfoldable pub tierByte : LuldRefPriceTier → ℕ
 tierByte LuldRefPriceTier·.Tier1 = '1'
 tierByte LuldRefPriceTier·.Tier2 = '2'
 tierByte LuldRefPriceTier·.Na = '␣'
 
+abbrev pub tierNames : List LuldRefPriceTier
+tierNames = LuldRefPriceTier·.Tier1 ∷ LuldRefPriceTier·.Tier2 ∷ []
+
 unfoldable pub tierFrom : ℕ → LuldRefPriceTier
-tierFrom b = nameOf tierByte (LuldRefPriceTier·.Tier1 ∷ LuldRefPriceTier·.Tier2 ∷ []) LuldRefPriceTier·.Na b
+tierFrom b = nameOf tierByte tierNames LuldRefPriceTier·.Na b
 
 unfoldable pub makerModeByte : MarketMakerMode → ℕ
 makerModeByte MarketMakerMode·.Normal = 'N'
@@ -179,15 +156,11 @@ makerModeByte MarketMakerMode·.Syndicate = 'S'
 makerModeByte MarketMakerMode·.Presyndicate = 'R'
 makerModeByte MarketMakerMode·.Penalty = 'L'
 
+abbrev pub makerModeNames : List MarketMakerMode
+makerModeNames = MarketMakerMode·.Normal ∷ MarketMakerMode·.Passive ∷ MarketMakerMode·.Syndicate ∷ MarketMakerMode·.Presyndicate ∷ []
+
 unfoldable pub makerModeFrom : ℕ → MarketMakerMode
-makerModeFrom b =
-    nameOf makerModeByte
-    (MarketMakerMode·.Normal
-    ∷ MarketMakerMode·.Passive
-    ∷ MarketMakerMode·.Syndicate
-    ∷ MarketMakerMode·.Presyndicate
-    ∷ [])
-    MarketMakerMode·.Penalty b
+makerModeFrom b = nameOf makerModeByte makerModeNames MarketMakerMode·.Penalty b
 
 unfoldable pub participantStateByte : MarketParticipantState → ℕ
 participantStateByte MarketParticipantState·.Active = 'A'
@@ -196,23 +169,23 @@ participantStateByte MarketParticipantState·.Withdrawn = 'W'
 participantStateByte MarketParticipantState·.Suspended = 'S'
 participantStateByte MarketParticipantState·.Deleted = 'D'
 
+abbrev pub participantStateNames : List MarketParticipantState
+participantStateNames =
+    MarketParticipantState·.Active ∷ MarketParticipantState·.Excused ∷ MarketParticipantState·.Withdrawn ∷ MarketParticipantState·.Suspended ∷ []
+
 unfoldable pub participantStateFrom : ℕ → MarketParticipantState
-participantStateFrom b =
-    nameOf participantStateByte
-    (MarketParticipantState·.Active
-    ∷ MarketParticipantState·.Excused
-    ∷ MarketParticipantState·.Withdrawn
-    ∷ MarketParticipantState·.Suspended
-    ∷ [])
-    MarketParticipantState·.Deleted b
+participantStateFrom b = nameOf participantStateByte participantStateNames MarketParticipantState·.Deleted b
 
 unfoldable pub actionByte : RegShoAction → ℕ
 actionByte RegShoAction·.None = '0'
 actionByte RegShoAction·.Intraday = '1'
 actionByte RegShoAction·.Extant = '2'
 
+abbrev pub actionNames : List RegShoAction
+actionNames = RegShoAction·.None ∷ RegShoAction·.Intraday ∷ []
+
 unfoldable pub actionFrom : ℕ → RegShoAction
-actionFrom b = nameOf actionByte (RegShoAction·.None ∷ RegShoAction·.Intraday ∷ []) RegShoAction·.Extant b
+actionFrom b = nameOf actionByte actionNames RegShoAction·.Extant b
 
 unfoldable pub tradingStateByte : TradingState → ℕ
 tradingStateByte TradingState·.Halted = 'H'
@@ -220,15 +193,21 @@ tradingStateByte TradingState·.Paused = 'P'
 tradingStateByte TradingState·.QuotationOnly = 'Q'
 tradingStateByte TradingState·.Trading = 'T'
 
+abbrev pub tradingStateNames : List TradingState
+tradingStateNames = TradingState·.Halted ∷ TradingState·.Paused ∷ TradingState·.QuotationOnly ∷ []
+
 unfoldable pub tradingStateFrom : ℕ → TradingState
-tradingStateFrom b = nameOf tradingStateByte (TradingState·.Halted ∷ TradingState·.Paused ∷ TradingState·.QuotationOnly ∷ []) TradingState·.Trading b
+tradingStateFrom b = nameOf tradingStateByte tradingStateNames TradingState·.Trading b
 
 unfoldable pub sideByte : Side → ℕ
 sideByte Side·.Buy = 'B'
 sideByte Side·.Sell = 'S'
 
+abbrev pub sideNames : List Side
+sideNames = Side·.Buy ∷ []
+
 unfoldable pub sideFrom : ℕ → Side
-sideFrom b = nameOf sideByte (Side·.Buy ∷ []) Side·.Sell b
+sideFrom b = nameOf sideByte sideNames Side·.Sell b
 
 unfoldable pub directionByte : ImbalanceDirection → ℕ
 directionByte ImbalanceDirection·.Buy = 'B'
@@ -236,8 +215,11 @@ directionByte ImbalanceDirection·.Sell = 'S'
 directionByte ImbalanceDirection·.NoImbalance = 'N'
 directionByte ImbalanceDirection·.InsufficientOrders = 'O'
 
+abbrev pub directionNames : List ImbalanceDirection
+directionNames = ImbalanceDirection·.Buy ∷ ImbalanceDirection·.Sell ∷ ImbalanceDirection·.NoImbalance ∷ []
+
 unfoldable pub directionFrom : ℕ → ImbalanceDirection
-directionFrom b = nameOf directionByte (ImbalanceDirection·.Buy ∷ ImbalanceDirection·.Sell ∷ ImbalanceDirection·.NoImbalance ∷ []) ImbalanceDirection·.InsufficientOrders b
+directionFrom b = nameOf directionByte directionNames ImbalanceDirection·.InsufficientOrders b
 
 unfoldable pub crossByte : CrossType → ℕ
 crossByte CrossType·.Opening = 'O'
@@ -246,23 +228,32 @@ crossByte CrossType·.IpoOrHalted = 'H'
 crossByte CrossType·.Intraday = 'I'
 crossByte CrossType·.ExtendedTradingClose = 'A'
 
+abbrev pub crossNames : List CrossType
+crossNames = CrossType·.Opening ∷ CrossType·.Closing ∷ CrossType·.IpoOrHalted ∷ CrossType·.Intraday ∷ []
+
 unfoldable pub crossFrom : ℕ → CrossType
-crossFrom b = nameOf crossByte (CrossType·.Opening ∷ CrossType·.Closing ∷ CrossType·.IpoOrHalted ∷ CrossType·.Intraday ∷ []) CrossType·.ExtendedTradingClose b
+crossFrom b = nameOf crossByte crossNames CrossType·.ExtendedTradingClose b
 
 unfoldable pub qualifierByte : IpoReleaseQualifier → ℕ
 qualifierByte IpoReleaseQualifier·.Anticipated = 'A'
 qualifierByte IpoReleaseQualifier·.Cancelled = 'C'
 
+abbrev pub qualifierNames : List IpoReleaseQualifier
+qualifierNames = IpoReleaseQualifier·.Anticipated ∷ []
+
 unfoldable pub qualifierFrom : ℕ → IpoReleaseQualifier
-qualifierFrom b = nameOf qualifierByte (IpoReleaseQualifier·.Anticipated ∷ []) IpoReleaseQualifier·.Cancelled b
+qualifierFrom b = nameOf qualifierByte qualifierNames IpoReleaseQualifier·.Cancelled b
 
 unfoldable pub levelByte : LevelBreached → ℕ
 levelByte LevelBreached·.L1 = '1'
 levelByte LevelBreached·.L2 = '2'
 levelByte LevelBreached·.L3 = '3'
 
+abbrev pub levelNames : List LevelBreached
+levelNames = LevelBreached·.L1 ∷ LevelBreached·.L2 ∷ []
+
 unfoldable pub levelFrom : ℕ → LevelBreached
-levelFrom b = nameOf levelByte (LevelBreached·.L1 ∷ LevelBreached·.L2 ∷ []) LevelBreached·.L3 b
+levelFrom b = nameOf levelByte levelNames LevelBreached·.L3 b
 
 unfoldable pub interestByte : InterestFlag → ℕ
 interestByte InterestFlag·.RPIAvailableBuySide = 'B'
@@ -270,22 +261,22 @@ interestByte InterestFlag·.RPIAvailableSellSide = 'S'
 interestByte InterestFlag·.RPIAvailableBothSides = 'A'
 interestByte InterestFlag·.RPINoneAvailable = 'N'
 
+abbrev pub interestNames : List InterestFlag
+interestNames = InterestFlag·.RPIAvailableBuySide ∷ InterestFlag·.RPIAvailableSellSide ∷ InterestFlag·.RPIAvailableBothSides ∷ []
+
 unfoldable pub interestFrom : ℕ → InterestFlag
-interestFrom b =
-    nameOf interestByte
-    (InterestFlag·.RPIAvailableBuySide
-    ∷ InterestFlag·.RPIAvailableSellSide
-    ∷ InterestFlag·.RPIAvailableBothSides
-    ∷ [])
-    InterestFlag·.RPINoneAvailable b
+interestFrom b = nameOf interestByte interestNames InterestFlag·.RPINoneAvailable b
 
 unfoldable pub flagByte : Flag → ℕ
 flagByte Flag·.Yes = 'Y'
 flagByte Flag·.No = 'N'
 flagByte Flag·.Absent = '␣'
 
+abbrev pub flagNames : List Flag
+flagNames = Flag·.Yes ∷ Flag·.No ∷ []
+
 unfoldable pub flagFrom : ℕ → Flag
-flagFrom b = nameOf flagByte (Flag·.Yes ∷ Flag·.No ∷ []) Flag·.Absent b
+flagFrom b = nameOf flagByte flagNames Flag·.Absent b
 
 unfoldable pub yesNoByte : Bool → ℕ
 yesNoByte true = 'Y'
@@ -356,68 +347,27 @@ subtypeByte IssueSubType·.Trust = pair 'X' '␣'
 subtypeByte IssueSubType·.Other = pair 'Y' '␣'
 subtypeByte IssueSubType·.NotApplicable = pair 'Z' '␣'
 
+abbrev pub subtypeNames : List IssueSubType
+subtypeNames =
+    IssueSubType·.PreferredTrustSecurities ∷ IssueSubType·.AlphaIndexETNs ∷ IssueSubType·.IndexBasedDerivative ∷ IssueSubType·.CommonShares
+    ∷ IssueSubType·.CommodityBasedTrustShares ∷ IssueSubType·.CommodityFuturesTrustShares ∷ IssueSubType·.CommodityLinkedSecurities
+    ∷ IssueSubType·.CommodityIndexTrustShares ∷ IssueSubType·.CollateralizedMortgageObligation ∷ IssueSubType·.CurrencyTrustShares
+    ∷ IssueSubType·.CommodityCurrencyLinkedSecurities ∷ IssueSubType·.CurrencyWarrants ∷ IssueSubType·.GlobalDepositaryShares
+    ∷ IssueSubType·.ETFPortfolioDepositaryReceipt ∷ IssueSubType·.EquityGoldShares ∷ IssueSubType·.ETNEquityIndexLinkedSecurities
+    ∷ IssueSubType·.ExchangeTradedManagedFunds ∷ IssueSubType·.ExchangeTradedNotes ∷ IssueSubType·.EquityUnits ∷ IssueSubType·.Holdrs
+    ∷ IssueSubType·.ETNFixedIncomeLinkedSecurities ∷ IssueSubType·.ETNFuturesLinkedSecurities ∷ IssueSubType·.GlobalShares
+    ∷ IssueSubType·.ETFIndexFundShares ∷ IssueSubType·.InterestRate ∷ IssueSubType·.IndexWarrant ∷ IssueSubType·.IndexLinkedExchangeableNotes
+    ∷ IssueSubType·.CorporateBackedTrustSecurity ∷ IssueSubType·.ContingentLitigationRight ∷ IssueSubType·.Llc ∷ IssueSubType·.EquityBasedDerivative
+    ∷ IssueSubType·.ManagedFundShares ∷ IssueSubType·.ETNMultiFactorIndexLinkedSecurities ∷ IssueSubType·.ManagedTrustSecurities
+    ∷ IssueSubType·.NYRegistryShares ∷ IssueSubType·.OpenEndedMutualFund ∷ IssueSubType·.PrivatelyHeldSecurity ∷ IssueSubType·.PoisonPill
+    ∷ IssueSubType·.PartnershipUnits ∷ IssueSubType·.ClosedEndFunds ∷ IssueSubType·.RegS ∷ IssueSubType·.CommodityRedeemableCommodityLinkedSecurities
+    ∷ IssueSubType·.ETNRedeemableFuturesLinkedSecurities ∷ IssueSubType·.REIT ∷ IssueSubType·.CommodityRedeemableCurrencyLinkedSecurities
+    ∷ IssueSubType·.Seed ∷ IssueSubType·.SpotRateClosing ∷ IssueSubType·.SpotRateIntraday ∷ IssueSubType·.TrackingStock
+    ∷ IssueSubType·.TrustCertificates ∷ IssueSubType·.TrustUnits ∷ IssueSubType·.Portal ∷ IssueSubType·.ContingentValueRight
+    ∷ IssueSubType·.TrustIssuedReceipts ∷ IssueSubType·.WorldCurrencyOption ∷ IssueSubType·.Trust ∷ IssueSubType·.Other ∷ []
+
 unfoldable pub subtypeFrom : ℕ → IssueSubType
-subtypeFrom v =
-    nameOf subtypeByte
-    (IssueSubType·.PreferredTrustSecurities
-    ∷ IssueSubType·.AlphaIndexETNs
-    ∷ IssueSubType·.IndexBasedDerivative
-    ∷ IssueSubType·.CommonShares
-    ∷ IssueSubType·.CommodityBasedTrustShares
-    ∷ IssueSubType·.CommodityFuturesTrustShares
-    ∷ IssueSubType·.CommodityLinkedSecurities
-    ∷ IssueSubType·.CommodityIndexTrustShares
-    ∷ IssueSubType·.CollateralizedMortgageObligation
-    ∷ IssueSubType·.CurrencyTrustShares
-    ∷ IssueSubType·.CommodityCurrencyLinkedSecurities
-    ∷ IssueSubType·.CurrencyWarrants
-    ∷ IssueSubType·.GlobalDepositaryShares
-    ∷ IssueSubType·.ETFPortfolioDepositaryReceipt
-    ∷ IssueSubType·.EquityGoldShares
-    ∷ IssueSubType·.ETNEquityIndexLinkedSecurities
-    ∷ IssueSubType·.ExchangeTradedManagedFunds
-    ∷ IssueSubType·.ExchangeTradedNotes
-    ∷ IssueSubType·.EquityUnits
-    ∷ IssueSubType·.Holdrs
-    ∷ IssueSubType·.ETNFixedIncomeLinkedSecurities
-    ∷ IssueSubType·.ETNFuturesLinkedSecurities
-    ∷ IssueSubType·.GlobalShares
-    ∷ IssueSubType·.ETFIndexFundShares
-    ∷ IssueSubType·.InterestRate
-    ∷ IssueSubType·.IndexWarrant
-    ∷ IssueSubType·.IndexLinkedExchangeableNotes
-    ∷ IssueSubType·.CorporateBackedTrustSecurity
-    ∷ IssueSubType·.ContingentLitigationRight
-    ∷ IssueSubType·.Llc
-    ∷ IssueSubType·.EquityBasedDerivative
-    ∷ IssueSubType·.ManagedFundShares
-    ∷ IssueSubType·.ETNMultiFactorIndexLinkedSecurities
-    ∷ IssueSubType·.ManagedTrustSecurities
-    ∷ IssueSubType·.NYRegistryShares
-    ∷ IssueSubType·.OpenEndedMutualFund
-    ∷ IssueSubType·.PrivatelyHeldSecurity
-    ∷ IssueSubType·.PoisonPill
-    ∷ IssueSubType·.PartnershipUnits
-    ∷ IssueSubType·.ClosedEndFunds
-    ∷ IssueSubType·.RegS
-    ∷ IssueSubType·.CommodityRedeemableCommodityLinkedSecurities
-    ∷ IssueSubType·.ETNRedeemableFuturesLinkedSecurities
-    ∷ IssueSubType·.REIT
-    ∷ IssueSubType·.CommodityRedeemableCurrencyLinkedSecurities
-    ∷ IssueSubType·.Seed
-    ∷ IssueSubType·.SpotRateClosing
-    ∷ IssueSubType·.SpotRateIntraday
-    ∷ IssueSubType·.TrackingStock
-    ∷ IssueSubType·.TrustCertificates
-    ∷ IssueSubType·.TrustUnits
-    ∷ IssueSubType·.Portal
-    ∷ IssueSubType·.ContingentValueRight
-    ∷ IssueSubType·.TrustIssuedReceipts
-    ∷ IssueSubType·.WorldCurrencyOption
-    ∷ IssueSubType·.Trust
-    ∷ IssueSubType·.Other
-    ∷ [])
-    IssueSubType·.NotApplicable v
+subtypeFrom v = nameOf subtypeByte subtypeNames IssueSubType·.NotApplicable v
 
 -- what a subtype's answer means
 abbrev pub subtypeM : SubtypeRead → Got

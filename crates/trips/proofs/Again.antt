@@ -11,13 +11,13 @@ use lib.ListN.{length, getD, drop, take}
 use lib.Seq.{drop-cons}
 use borrow.Author.Tests.{ne-eqb}
 use Rattle.format.specs.Ascii.{'␣', 'H', 'M', 'R', 'Y'}
-use Rattle.format.specs.Layout.{time, etp, skip, widths, be, part, judge, Answer, accepted, incomplete, refuses}
+use Rattle.format.specs.Layout.{time, etp, skip, widths, be, part, judge, accepted}
 use Rattle.format.specs.Rows.{rows, Found, found, none, find, fieldsIn, under, header, sizeOf, bodyOf, window}
 use Rattle.format.proofs.Tests.{le-or-lt}
 use Rattle.format.proofs.Bytes.{Bytes, be-below, be-one, part-split}
 use Rattle.format.proofs.Fields.{field-judged, field-num}
 use Rattle.format.proofs.Runs.{Reads, end, _⨾_}
-use Rattle.format.proofs.Windows.{pre, window-there, window-cut}
+use Rattle.format.proofs.Windows.{window-there, window-cut}
 use Rattle.laws.proofs.Rows.{all-read}
 use Rattle.laws.proofs.Window.{pre-accepted, window-covers}
 use Rattle.pen.specs.Encode.{digits, write, layout}
@@ -34,7 +34,7 @@ use Rattle.writer.specs.declared.Written.the-variants.{Done}
 use Rattle.writer.specs.Writing.{tagOf, fieldsOf, textsOf, headOf, encode, writtenOf, after}
 use Rattle.writer.proofs.Says.{body-size, says-done}
 use Rattle.trips.specs.Exceptions.{Plain}
-use Rattle.trips.proofs.Fields.{tidy, tidyRow, digits-be, took-row, Clean, clean-row}
+use Rattle.trips.proofs.Fields.{tidy, tidyRow, digits-be, took-row, parts, parts-row}
 use Rattle.trips.proofs.Legal.{no-intraday}
 
 -- an accepted message, field by field
@@ -98,10 +98,10 @@ head-bytes s m b o =
     ∙ ap (λ v. write (drop 1 header) (getD s 2 0 ∷ be (part s 3 2) ∷ v ∷ m .timestamp ∷ [])) (o .tracking)
     ∙ ap (λ v. write (drop 1 header) (getD s 2 0 ∷ be (part s 3 2) ∷ be (part s 5 2) ∷ v ∷ [])) (o .stamp)
     ∙ took-row (head-reads s (o .long)) b .0
-    ∙ clean-row (drop 1 header) s 2 (refl, (refl, (refl, (refl, tt))))
+    ∙ parts-row (drop 1 header) s 2
 
 -- what was read is written where the buffer holds it, as the size and the consumed bytes behind the length, tidied
-pub written-again : (s : List ℕ) (m : Message) (n room : ℕ) → Bytes s → windowM (Accepted m n) ≡ window s → n ≤ room
+written-again : (s : List ℕ) (m : Message) (n room : ℕ) → Bytes s → windowM (Accepted m n) ≡ window s → n ≤ room
     → (writtenOf m room ≡ Done n) × (encode m ≡ digits 2 (sizeOf (m .tag)) ++ (part s 2 11 ++ tidyRow (layout (m .tag)) s 13))
 unfolding encode textsOf
 written-again s m n room b e l =
@@ -110,50 +110,50 @@ written-again s m n room b e l =
     let t = took-row (o .fields) b in
     let y : be (part s 7 6) < 256 ^ 6 = be-below s 7 6 b (omega (arith, o .long)) in
     let k : write (layout (m .tag)) (fieldsOf (m .body)) ≡ tidyRow (layout (m .tag)) s 13 = rw (o .agrees) (t .0) in (
-      sym (says-done m room (o .agrees) (omega (arith, o .stamp)) (t .1) (no-intraday (m .body) (t .2)) (omega arith)) ∙ ap Done (sym c),
+      sym (says-done m room (o .agrees) (omega (arith, o .stamp)) (t .1) (no-intraday (values (m .body)) (t .2)) (omega arith)) ∙ ap Done (sym c),
       append-assoc (digits 2 (sizeOf (m .tag))) (write (drop 1 header) (drop 1 (headOf m))) (write (layout (m .tag)) (fieldsOf (m .body)))
           ∙ ap (λ xs. digits 2 (sizeOf (m .tag)) ++ (xs ++ write (layout (m .tag)) (fieldsOf (m .body)))) (head-bytes s m b o)
           ∙ ap (λ xs. digits 2 (sizeOf (m .tag)) ++ (part s 2 11 ++ xs)) k,
     )
 
--- only H has a byte that is not kept, at 22, and only R an ETP flag, at 35
-order-clean : (a : AddOrder) (p : Mpid) (s : List ℕ) → Clean (layout (getD (orderValues a p) 0 0)) s 13
+-- only H has a byte that is not kept, at 22, and only R an ETP flag, at 35: the tidied bytes are the bytes where these two are
+order-tidy : (a : AddOrder) (p : Mpid) (s : List ℕ) → tidyRow (layout (getD (orderValues a p) 0 0)) s 13 ≡ parts (layout (getD (orderValues a p) 0 0)) s 13
 unfolding layout
-order-clean a Absent s = (refl, (refl, (refl, (refl, (refl, tt)))))
-order-clean a (Present v) s = (refl, (refl, (refl, (refl, (refl, (refl, tt))))))
+order-tidy a Absent s = refl
+order-tidy a (Present v) s = refl
 
-body-clean : (b : Body) (s : List ℕ) → (tagOf b ≡ 'H' → tidy skip (part s 22 1) ≡ part s 22 1) → (tagOf b ≡ 'R' → tidy etp (part s 35 1) ≡ part s 35 1)
-    → Clean (layout (tagOf b)) s 13
+body-tidy : (b : Body) (s : List ℕ) → (tagOf b ≡ 'H' → tidy skip (part s 22 1) ≡ part s 22 1) → (tagOf b ≡ 'R' → tidy etp (part s 35 1) ≡ part s 35 1)
+    → tidyRow (layout (tagOf b)) s 13 ≡ parts (layout (tagOf b)) s 13
 unfolding layout
-body-clean (Body·.AddOrder x) s reserved flag = order-clean x (x .mpid) s
-body-clean (Body·.Breach x) s reserved flag = (refl, tt)
-body-clean (Body·.BrokenTrade match-number) s reserved flag = (refl, tt)
-body-clean (Body·.CrossTrade x) s reserved flag = (refl, (refl, (refl, (refl, (refl, tt)))))
-body-clean (Body·.DeleteOrder reference) s reserved flag = (refl, tt)
-body-clean (Body·.Imbalance x) s reserved flag = (refl, (refl, (refl, (refl, (refl, (refl, (refl, (refl, (refl, tt)))))))))
-body-clean (Body·.IpoQuotingPeriod x) s reserved flag = (refl, (refl, (refl, (refl, tt))))
-body-clean (Body·.LULDAuctionCollar stock ref-price upper-price lower-price extension) s reserved flag = (refl, (refl, (refl, (refl, (refl, tt)))))
-body-clean (Body·.MwcbDeclineLevel level1 level2 level3) s reserved flag = (refl, (refl, (refl, tt)))
-body-clean (Body·.NonCrossTrade x) s reserved flag = (refl, (refl, (refl, (refl, (refl, (refl, tt))))))
-body-clean (Body·.OrderCancelled reference cancelled) s reserved flag = (refl, (refl, tt))
-body-clean (Body·.OrderExecuted reference executed match-number) s reserved flag = (refl, (refl, (refl, tt)))
-body-clean (Body·.OrderExecutedWithPrice reference executed match-number printable price) s reserved flag = (refl, (refl, (refl, (refl, (refl, tt)))))
-body-clean (Body·.ParticipantPosition x) s reserved flag = (refl, (refl, (refl, (refl, (refl, tt)))))
-body-clean (Body·.RegShoRestriction stock action) s reserved flag = (refl, (refl, tt))
-body-clean (Body·.ReplaceOrder x) s reserved flag = (refl, (refl, (refl, (refl, tt))))
-body-clean (Body·.RetailPriceImprovementIndicator x) s reserved flag = (refl, (refl, tt))
-body-clean (Body·.StockDirectory x) s reserved flag = (refl, (refl, (refl, (refl, (refl, (refl, (refl, (refl, (refl, (refl, (refl, (flag refl, (refl, (refl, tt))))))))))))))
-body-clean (Body·.SystemEvent event) s reserved flag = (refl, tt)
-body-clean (Body·.TradingAction stock trading-state reason) s reserved flag = (refl, (refl, (reserved refl, (refl, tt))))
+body-tidy (Body·.AddOrder x) s reserved flag = order-tidy x (x .mpid) s
+body-tidy (Body·.Breach x) s reserved flag = refl
+body-tidy (Body·.BrokenTrade match-number) s reserved flag = refl
+body-tidy (Body·.CrossTrade x) s reserved flag = refl
+body-tidy (Body·.DeleteOrder reference) s reserved flag = refl
+body-tidy (Body·.Imbalance x) s reserved flag = refl
+body-tidy (Body·.IpoQuotingPeriod x) s reserved flag = refl
+body-tidy (Body·.LULDAuctionCollar stock ref-price upper-price lower-price extension) s reserved flag = refl
+body-tidy (Body·.MwcbDeclineLevel level1 level2 level3) s reserved flag = refl
+body-tidy (Body·.NonCrossTrade x) s reserved flag = refl
+body-tidy (Body·.OrderCancelled reference cancelled) s reserved flag = refl
+body-tidy (Body·.OrderExecuted reference executed match-number) s reserved flag = refl
+body-tidy (Body·.OrderExecutedWithPrice reference executed match-number printable price) s reserved flag = refl
+body-tidy (Body·.ParticipantPosition x) s reserved flag = refl
+body-tidy (Body·.RegShoRestriction stock action) s reserved flag = refl
+body-tidy (Body·.ReplaceOrder x) s reserved flag = refl
+body-tidy (Body·.RetailPriceImprovementIndicator x) s reserved flag = refl
+body-tidy (Body·.StockDirectory x) s reserved flag = rw (flag refl)
+body-tidy (Body·.SystemEvent event) s reserved flag = refl
+body-tidy (Body·.TradingAction stock trading-state reason) s reserved flag = ap (λ bs. part s 13 8 ++ (part s 21 1 ++ (bs ++ (part s 23 4 ++ [])))) (reserved refl)
 
 one-byte : (s : List ℕ) (at : ℕ) → at < length s → part s at 1 ≡ getD s at 0 ∷ []
 one-byte s at l = rw (drop-cons s at 0)
 
-space-clean : (s : List ℕ) (at : ℕ) → at < length s → getD s at 0 ≡ '␣' → tidy skip (part s at 1) ≡ part s at 1
-space-clean s at l q = ap (λ x. x ∷ []) (sym q) ∙ sym (one-byte s at l)
+space-tidy : (s : List ℕ) (at : ℕ) → at < length s → getD s at 0 ≡ '␣' → tidy skip (part s at 1) ≡ part s at 1
+space-tidy s at l q = ap (λ x. x ∷ []) (sym q) ∙ sym (one-byte s at l)
 
-flag-clean : (s : List ℕ) (at : ℕ) → at < length s → (getD s at 0 ≡ 'M' → ⊥) → tidy etp (part s at 1) ≡ part s at 1
-flag-clean s at l q = ap (λ x. cond (eqb x 'M') ('Y' ∷ []) (part s at 1)) (be-one s at l) ∙ ap (λ x. cond x ('Y' ∷ []) (part s at 1)) (ne-eqb _ _ q)
+flag-tidy : (s : List ℕ) (at : ℕ) → at < length s → (getD s at 0 ≡ 'M' → ⊥) → tidy etp (part s at 1) ≡ part s at 1
+flag-tidy s at l q = ap (λ x. cond (eqb x 'M') ('Y' ∷ []) (part s at 1)) (be-one s at l) ∙ ap (λ x. cond x ('Y' ∷ []) (part s at 1)) (ne-eqb _ _ q)
 
 -- writing what was read gives the consumed bytes, and later bytes stay, unless the length differed, H's reserved byte was no space or ETP was M
 pub written-back : (s : List ℕ) (m : Message) (n : ℕ) (t : List ℕ) → Bytes s → windowM (Accepted m n) ≡ window s → n ≤ length t
@@ -164,10 +164,10 @@ written-back s m n t b e l f =
     let c = window-covers s (messageValues m) n (sym e) in
     let w = written-again s m n (length t) b e l in
     let h : tagOf (m .body) ≡ 'H' → tidy skip (part s 22 1) ≡ part s 22 1 =
-    λ q. space-clean s 22 (omega (arith, c .0, c .1, ap sizeOf (o .agrees ∙ q))) (f .1 (o .agrees ∙ q)) in
+    λ q. space-tidy s 22 (omega (arith, c .0, c .1, ap sizeOf (o .agrees ∙ q))) (f .1 (o .agrees ∙ q)) in
     let r : tagOf (m .body) ≡ 'R' → tidy etp (part s 35 1) ≡ part s 35 1 =
-    λ q. flag-clean s 35 (omega (arith, c .0, c .1, ap sizeOf (o .agrees ∙ q))) (f .2 (o .agrees ∙ q)) in
-    let g : Clean (layout (m .tag)) s 13 = subst (λ k. Clean (layout k) s 13) (sym (o .agrees)) (body-clean (m .body) s h r) in
+    λ q. flag-tidy s 35 (omega (arith, c .0, c .1, ap sizeOf (o .agrees ∙ q))) (f .2 (o .agrees ∙ q)) in
+    let g : tidyRow (layout (m .tag)) s 13 ≡ parts (layout (m .tag)) s 13 = rw (o .agrees) (body-tidy (m .body) s h r) in
     let z : ℕ = widths (layout (m .tag)) in
     let y : sizeOf (m .tag) ≡ 11 + z = ap sizeOf (o .agrees) ∙ body-size (m .body) ∙ ap (λ k. 11 + widths (layout k)) (sym (o .agrees)) in
     let x : 2 + (11 + z) ≡ n = omega (arith, c .0) in
@@ -176,6 +176,6 @@ written-back s m n t b e l f =
       w .0,
       ap (λ xs. xs ++ drop n t)
           (w .1 ∙ ap (λ xs. xs ++ (part s 2 11 ++ tidyRow (layout (m .tag)) s 13)) a
-          ∙ ap (λ xs. part s 0 2 ++ (part s 2 11 ++ xs)) (clean-row (layout (m .tag)) s 13 g)
+          ∙ ap (λ xs. part s 0 2 ++ (part s 2 11 ++ xs)) (g ∙ parts-row (layout (m .tag)) s 13)
           ∙ ap (λ xs. part s 0 2 ++ xs) (sym p) ∙ sym (part-split s 0 2 (11 + z)) ∙ ap (λ k. take k s) x),
     )

@@ -58,7 +58,7 @@ under-known : (f : Found) (s : List ℕ) (at : ℕ) (vs : List ℕ) → sizeIn f
 under-known (found r) s at vs h = refl
 under-known none s at vs h = absurd (omega arith)
 
-pub body-under : (t : ℕ) (s : List ℕ) (at : ℕ) (vs : List ℕ) → sizeOf t ≡ 11 + widths (layout t) → under (find rows t) s at vs ≡ read (layout t) s at vs accepted
+body-under : (t : ℕ) (s : List ℕ) (at : ℕ) (vs : List ℕ) → sizeOf t ≡ 11 + widths (layout t) → under (find rows t) s at vs ≡ read (layout t) s at vs accepted
 unfolding layout sizeOf
 body-under t s at vs h = under-known (find rows t) s at vs h
 

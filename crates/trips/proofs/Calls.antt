@@ -19,8 +19,8 @@ use Rattle.trips.proofs.Back.{read-back}
 use Rattle.trips.proofs.Again.{written-back}
 
 -- the writer's answer w and buffer u, then the reader's answer r
-pub write-then-read : (m : Message) (s : List ℕ) {u : List ℕ} {w : Written} {r : Window} → w ≡ writtenOf m (length s) → u ≡ after w m s → Fits w m → windowM r ≡ window u
-    → (n : ℕ) → writtenOf m (length s) ≡ Done n → r ≡ Accepted m n
+pub write-then-read : (m : Message) (s : List ℕ) {u : List ℕ} {w : Written} {r : Window} → w ≡ writtenOf m (length s) → u ≡ after w m s → Fits w m
+    → windowM r ≡ window u → (n : ℕ) → writtenOf m (length s) ≡ Done n → r ≡ Accepted m n
 write-then-read m s {u} {r = r} q a f e n d =
     let k : u ≡ after (Done n) m s = a ∙ ap (λ x. after x m s) (q ∙ d) in
     exactly (after (Done n) m s) r (e ∙ ap window k) ∙ read-back m s n d (subst (λ x. Fits x m) (q ∙ d) f) .0

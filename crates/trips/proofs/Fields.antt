@@ -3,25 +3,24 @@
 use mathlib.Core.Path.{_≡_, refl, sym, ap, _∙_, subst}
 use mathlib.Core.List.{List, [], _∷_, _++_, append-assoc}
 use mathlib.Core.Bool.{Bool, true, false, cond, not, _&&_}
-use mathlib.Core.Logic.{⊎-elim}
 use Prim.Native.Nat.{ℕ, zero, suc, _+_, _*_, _^_, _/_, _%_, _≤_, _<_}
 use native.Mathlib.Nat.{pow-suc}
 use native.Mathlib.Numerals.{add-one}
 use native.Mathlib.Omega.{arith}
 use lib.Dec.{eqb}
 use lib.ListN.{length, getD, take, drop, length-append}
-use lib.Seq.{take-at, drop-append-seam, take-add, drop-drop}
+use lib.Seq.{take-at, drop-append-seam}
 use Rattle.format.specs.Ascii.{'␣', 'M', 'Y'}
 use Rattle.format.specs.Codes.{etpFlag, subtypes}
 use Rattle.format.specs.Utf8.{wellFormed}
-use Rattle.format.specs.Layout.{Kind, num, time, text, code, etp, subtype, skip, width, widths, beFrom, be, part, member, asYes, Verdict, fine, wrong, judge, got, short, placed, field}
-use Rattle.format.proofs.Tests.{le-or-lt}
-use Rattle.format.proofs.Bytes.{Bytes, be-snoc, part-more}
+use Rattle.format.specs.Layout.{Kind, num, time, text, code, etp, subtype, skip, width, widths, be, part, member, asYes, Verdict, fine, wrong, judge, got, placed, field}
+use Rattle.format.proofs.Bytes.{Bytes, be-snoc, part-split, part-more}
 use Rattle.format.proofs.Fields.{field-judged}
 use Rattle.format.proofs.Runs.{Reads, end, _⨾_}
 use Rattle.laws.proofs.Rows.{field-has}
 use Rattle.pen.specs.Encode.{digits, kept, valueOf, rest, write, textFine, textsFine, Sized}
 use Rattle.pen.proofs.Digits.{length-digits}
+use Rattle.writer.proofs.Says.{count}
 
 -- each code is one that its field allows; M is read as yes and never written
 abbrev pub codeFine : Kind → ℕ → Bool
@@ -44,11 +43,6 @@ left false b e = e
 pub right : (a b : Bool) → a && b ≡ true → b ≡ true
 right true b e = e
 right false b e = let z : _≡_ {A = ℕ} 0 1 = cc in absurd (omega arith)
-
--- how many values a row has
-abbrev pub count : List Kind → ℕ
-count [] = 0
-count (k ∷ ks) = cond (kept k) 1 0 + count ks
 
 -- the values that a field gives
 abbrev given : Kind → List ℕ → List ℕ
@@ -218,14 +212,11 @@ took-row {s} (_⨾_ {k = k} {ks = ks} {at = at} {v = v} {vs = vs} e r) b =
       ap (λ x. x && codesFine ks (rest k (v ++ vs))) (t .codes) ∙ ap (codesFine ks) (t .after) ∙ g .2,
     )
 
--- where the tidied bytes are the bytes, they are the row's part
-abbrev pub Clean : List Kind → List ℕ → ℕ → Type 0
-Clean [] s at = Unit {0}
-Clean (k ∷ ks) s at = (tidy k (part s at (width k)) ≡ part s at (width k)) × Clean ks s (at + width k)
+-- the bytes of a row's fields, one after the other, are the row's part
+abbrev pub parts : List Kind → List ℕ → ℕ → List ℕ
+parts [] s at = []
+parts (k ∷ ks) s at = part s at (width k) ++ parts ks s (at + width k)
 
-pub clean-row : (ks : List Kind) (s : List ℕ) (at : ℕ) → Clean ks s at → tidyRow ks s at ≡ part s at (widths ks)
-clean-row [] s at c = refl
-clean-row (k ∷ ks) s at c =
-    ap (λ xs. xs ++ tidyRow ks s (at + width k)) (c .0)
-    ∙ ap (λ xs. part s at (width k) ++ xs) (clean-row ks s (at + width k) (c .1) ∙ ap (take (widths ks)) (sym (drop-drop (width k) at s)))
-    ∙ sym (take-add (width k) (widths ks) (drop at s))
+pub parts-row : (ks : List Kind) (s : List ℕ) (at : ℕ) → parts ks s at ≡ part s at (widths ks)
+parts-row [] s at = refl
+parts-row (k ∷ ks) s at = ap (λ xs. part s at (width k) ++ xs) (parts-row ks s (at + width k)) ∙ sym (part-split s at (width k) (widths ks))

@@ -21,8 +21,8 @@ pub fn write_read(m: Message, buf: &mut [u8]) -> Window
     reader::parse_message(buf)
 }
 
-// A message that was read is written as the bytes that it was, and later bytes stay, but for the three exceptions. (What no message is, nothing is
-// said of.)
+// A message that was read is written as the bytes that it was, and later bytes stay, but for the three exceptions. Of bytes that are no message
+// nothing is said.
 pub fn read_write(s: &[u8], buf: &mut [u8]) -> Written
     ensures { λ r. ⌜ ((m : Message) (n : ℕ) → windowM (Window.Message m n) ≡ window (now (s .entry)) → n ≤ length (now (buf .entry)) → Plain (now (s .entry)) m → (r ≡ Written.Done n) × (now (buf .exit) ≡ take n (now (s .entry)) ++ drop n (now (buf .entry)))) ⌝ }
 {

@@ -1,8 +1,7 @@
 -- `codes::action_of` meets its contract.
 -- Assumes nothing.
-use mathlib.Core.List.{[], _∷_}
 use Rattle.codes.specs.declared.RegShoAction.the-variants as RegShoAction·
-use Rattle.codes.specs.Names.{actionByte, actionFrom}
+use Rattle.codes.specs.Names.{actionByte, actionNames, actionFrom}
 use Rattle.codes.proofs.Match.{last-name}
 use Rattle.codes.proofs.action_of.Statement.{statement}
 use Rattle.codes.proofs.action_of.Tie as tie
@@ -17,7 +16,7 @@ returns-2 c = rw (c .match .keys2)
 
 returns-3 : tie.Need-returns-3
 unfolding actionFrom actionByte
-returns-3 c = last-name actionByte (RegShoAction·.None ∷ RegShoAction·.Intraday ∷ []) RegShoAction·.Extant _ (c .match .rest)
+returns-3 c = last-name actionByte actionNames RegShoAction·.Extant _ (c .match .rest)
 
 pub action-of-spec : {M : Type 1} → statement M
 action-of-spec = tie.close (tie.spec returns returns-2 returns-3)

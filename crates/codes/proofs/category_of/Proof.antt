@@ -1,8 +1,7 @@
 -- `codes::category_of` meets its contract.
 -- Assumes nothing.
-use mathlib.Core.List.{[], _∷_}
 use Rattle.codes.specs.declared.MarketCategory.the-variants as MarketCategory·
-use Rattle.codes.specs.Names.{categoryByte, categoryFrom}
+use Rattle.codes.specs.Names.{categoryByte, categoryNames, categoryFrom}
 use Rattle.codes.proofs.Match.{last-name}
 use Rattle.codes.proofs.category_of.Statement.{statement}
 use Rattle.codes.proofs.category_of.Tie as tie
@@ -41,7 +40,7 @@ returns-8 c = rw (c .match .keys8)
 
 returns-9 : tie.Need-returns-9
 unfolding categoryFrom categoryByte
-returns-9 c = last-name categoryByte (MarketCategory·.NasdaqGlobalSelect ∷ MarketCategory·.NasdaqGlobalMarket ∷ MarketCategory·.NasdaqCapitalMarket ∷ MarketCategory·.Nyse ∷ MarketCategory·.NyseMkt ∷ MarketCategory·.NyseArca ∷ MarketCategory·.BatsZExchange ∷ MarketCategory·.InvestorsExchange ∷ []) MarketCategory·.Unavailable _ (c .match .rest)
+returns-9 c = last-name categoryByte categoryNames MarketCategory·.Unavailable _ (c .match .rest)
 
 pub category-of-spec : {M : Type 1} → statement M
 category-of-spec =

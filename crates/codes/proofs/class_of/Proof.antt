@@ -1,8 +1,7 @@
 -- `codes::class_of` meets its contract.
 -- Assumes nothing.
-use mathlib.Core.List.{[], _∷_}
 use Rattle.codes.specs.declared.IssueClassification.the-variants as IssueClassification·
-use Rattle.codes.specs.Names.{classByte, classFrom}
+use Rattle.codes.specs.Names.{classByte, classNames, classFrom}
 use Rattle.codes.proofs.Match.{last-name}
 use Rattle.codes.proofs.class_of.Statement.{statement}
 use Rattle.codes.proofs.class_of.Tie as tie
@@ -69,7 +68,7 @@ returns-15 c = rw (c .match .keys15)
 
 returns-16 : tie.Need-returns-16
 unfolding classFrom classByte
-returns-16 c = last-name classByte (IssueClassification·.AmericanDepositaryShare ∷ IssueClassification·.Bond ∷ IssueClassification·.CommonStock ∷ IssueClassification·.DepositoryReceipt ∷ IssueClassification·.A144 ∷ IssueClassification·.LimitedPartnership ∷ IssueClassification·.Notes ∷ IssueClassification·.OrdinaryShare ∷ IssueClassification·.PreferredStock ∷ IssueClassification·.OtherSecurities ∷ IssueClassification·.Right ∷ IssueClassification·.SharesOfBeneficialInterest ∷ IssueClassification·.ConvertibleDebenture ∷ IssueClassification·.Unit ∷ IssueClassification·.UnitsPerBenifInt ∷ []) IssueClassification·.Warrant _ (c .match .rest)
+returns-16 c = last-name classByte classNames IssueClassification·.Warrant _ (c .match .rest)
 
 pub class-of-spec : {M : Type 1} → statement M
 class-of-spec =

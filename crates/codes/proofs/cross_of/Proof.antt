@@ -1,8 +1,7 @@
 -- `codes::cross_of` meets its contract.
 -- Assumes nothing.
-use mathlib.Core.List.{[], _∷_}
 use Rattle.codes.specs.declared.CrossType.the-variants as CrossType·
-use Rattle.codes.specs.Names.{crossByte, crossFrom}
+use Rattle.codes.specs.Names.{crossByte, crossNames, crossFrom}
 use Rattle.codes.proofs.Match.{last-name}
 use Rattle.codes.proofs.cross_of.Statement.{statement}
 use Rattle.codes.proofs.cross_of.Tie as tie
@@ -25,7 +24,7 @@ returns-4 c = rw (c .match .keys4)
 
 returns-5 : tie.Need-returns-5
 unfolding crossFrom crossByte
-returns-5 c = last-name crossByte (CrossType·.Opening ∷ CrossType·.Closing ∷ CrossType·.IpoOrHalted ∷ CrossType·.Intraday ∷ []) CrossType·.ExtendedTradingClose _ (c .match .rest)
+returns-5 c = last-name crossByte crossNames CrossType·.ExtendedTradingClose _ (c .match .rest)
 
 pub cross-of-spec : {M : Type 1} → statement M
 cross-of-spec = tie.close (tie.spec returns returns-2 returns-3 returns-4 returns-5)

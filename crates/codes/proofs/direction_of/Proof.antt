@@ -1,8 +1,7 @@
 -- `codes::direction_of` meets its contract.
 -- Assumes nothing.
-use mathlib.Core.List.{[], _∷_}
 use Rattle.codes.specs.declared.ImbalanceDirection.the-variants as ImbalanceDirection·
-use Rattle.codes.specs.Names.{directionByte, directionFrom}
+use Rattle.codes.specs.Names.{directionByte, directionNames, directionFrom}
 use Rattle.codes.proofs.Match.{last-name}
 use Rattle.codes.proofs.direction_of.Statement.{statement}
 use Rattle.codes.proofs.direction_of.Tie as tie
@@ -21,7 +20,7 @@ returns-3 c = rw (c .match .keys3)
 
 returns-4 : tie.Need-returns-4
 unfolding directionFrom directionByte
-returns-4 c = last-name directionByte (ImbalanceDirection·.Buy ∷ ImbalanceDirection·.Sell ∷ ImbalanceDirection·.NoImbalance ∷ []) ImbalanceDirection·.InsufficientOrders _ (c .match .rest)
+returns-4 c = last-name directionByte directionNames ImbalanceDirection·.InsufficientOrders _ (c .match .rest)
 
 pub direction-of-spec : {M : Type 1} → statement M
 direction-of-spec = tie.close (tie.spec returns returns-2 returns-3 returns-4)

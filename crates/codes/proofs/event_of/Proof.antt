@@ -1,8 +1,7 @@
 -- `codes::event_of` meets its contract.
 -- Assumes nothing.
-use mathlib.Core.List.{[], _∷_}
 use Rattle.codes.specs.declared.EventCode.the-variants as EventCode·
-use Rattle.codes.specs.Names.{eventByte, eventFrom}
+use Rattle.codes.specs.Names.{eventByte, eventNames, eventFrom}
 use Rattle.codes.proofs.Match.{last-name}
 use Rattle.codes.proofs.event_of.Statement.{statement}
 use Rattle.codes.proofs.event_of.Tie as tie
@@ -29,7 +28,7 @@ returns-5 c = rw (c .match .keys5)
 
 returns-6 : tie.Need-returns-6
 unfolding eventFrom eventByte
-returns-6 c = last-name eventByte (EventCode·.StartOfMessages ∷ EventCode·.StartOfSystemHours ∷ EventCode·.StartOfMarketHours ∷ EventCode·.EndOfMarketHours ∷ EventCode·.EndOfSystemHours ∷ []) EventCode·.EndOfMessages _ (c .match .rest)
+returns-6 c = last-name eventByte eventNames EventCode·.EndOfMessages _ (c .match .rest)
 
 pub event-of-spec : {M : Type 1} → statement M
 event-of-spec = tie.close (tie.spec returns returns-2 returns-3 returns-4 returns-5 returns-6)

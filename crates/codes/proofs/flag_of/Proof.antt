@@ -1,8 +1,7 @@
 -- `codes::flag_of` meets its contract.
 -- Assumes nothing.
-use mathlib.Core.List.{[], _∷_}
 use Rattle.codes.specs.declared.Flag.the-variants as Flag·
-use Rattle.codes.specs.Names.{flagByte, flagFrom}
+use Rattle.codes.specs.Names.{flagByte, flagNames, flagFrom}
 use Rattle.codes.proofs.Match.{last-name}
 use Rattle.codes.proofs.flag_of.Statement.{statement}
 use Rattle.codes.proofs.flag_of.Tie as tie
@@ -17,7 +16,7 @@ returns-2 c = rw (c .match .keys2)
 
 returns-3 : tie.Need-returns-3
 unfolding flagFrom flagByte
-returns-3 c = last-name flagByte (Flag·.Yes ∷ Flag·.No ∷ []) Flag·.Absent _ (c .match .rest)
+returns-3 c = last-name flagByte flagNames Flag·.Absent _ (c .match .rest)
 
 pub flag-of-spec : {M : Type 1} → statement M
 flag-of-spec = tie.close (tie.spec returns returns-2 returns-3)

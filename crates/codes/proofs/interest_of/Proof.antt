@@ -1,8 +1,7 @@
 -- `codes::interest_of` meets its contract.
 -- Assumes nothing.
-use mathlib.Core.List.{[], _∷_}
 use Rattle.codes.specs.declared.InterestFlag.the-variants as InterestFlag·
-use Rattle.codes.specs.Names.{interestByte, interestFrom}
+use Rattle.codes.specs.Names.{interestByte, interestNames, interestFrom}
 use Rattle.codes.proofs.Match.{last-name}
 use Rattle.codes.proofs.interest_of.Statement.{statement}
 use Rattle.codes.proofs.interest_of.Tie as tie
@@ -21,7 +20,7 @@ returns-3 c = rw (c .match .keys3)
 
 returns-4 : tie.Need-returns-4
 unfolding interestFrom interestByte
-returns-4 c = last-name interestByte (InterestFlag·.RPIAvailableBuySide ∷ InterestFlag·.RPIAvailableSellSide ∷ InterestFlag·.RPIAvailableBothSides ∷ []) InterestFlag·.RPINoneAvailable _ (c .match .rest)
+returns-4 c = last-name interestByte interestNames InterestFlag·.RPINoneAvailable _ (c .match .rest)
 
 pub interest-of-spec : {M : Type 1} → statement M
 interest-of-spec = tie.close (tie.spec returns returns-2 returns-3 returns-4)

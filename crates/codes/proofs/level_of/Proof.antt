@@ -1,8 +1,7 @@
 -- `codes::level_of` meets its contract.
 -- Assumes nothing.
-use mathlib.Core.List.{[], _∷_}
 use Rattle.codes.specs.declared.LevelBreached.the-variants as LevelBreached·
-use Rattle.codes.specs.Names.{levelByte, levelFrom}
+use Rattle.codes.specs.Names.{levelByte, levelNames, levelFrom}
 use Rattle.codes.proofs.Match.{last-name}
 use Rattle.codes.proofs.level_of.Statement.{statement}
 use Rattle.codes.proofs.level_of.Tie as tie
@@ -17,7 +16,7 @@ returns-2 c = rw (c .match .keys2)
 
 returns-3 : tie.Need-returns-3
 unfolding levelFrom levelByte
-returns-3 c = last-name levelByte (LevelBreached·.L1 ∷ LevelBreached·.L2 ∷ []) LevelBreached·.L3 _ (c .match .rest)
+returns-3 c = last-name levelByte levelNames LevelBreached·.L3 _ (c .match .rest)
 
 pub level-of-spec : {M : Type 1} → statement M
 level-of-spec = tie.close (tie.spec returns returns-2 returns-3)

@@ -1,8 +1,7 @@
 -- `codes::maker_mode_of` meets its contract.
 -- Assumes nothing.
-use mathlib.Core.List.{[], _∷_}
 use Rattle.codes.specs.declared.MarketMakerMode.the-variants as MarketMakerMode·
-use Rattle.codes.specs.Names.{makerModeByte, makerModeFrom}
+use Rattle.codes.specs.Names.{makerModeByte, makerModeNames, makerModeFrom}
 use Rattle.codes.proofs.Match.{last-name}
 use Rattle.codes.proofs.maker_mode_of.Statement.{statement}
 use Rattle.codes.proofs.maker_mode_of.Tie as tie
@@ -25,7 +24,7 @@ returns-4 c = rw (c .match .keys4)
 
 returns-5 : tie.Need-returns-5
 unfolding makerModeFrom makerModeByte
-returns-5 c = last-name makerModeByte (MarketMakerMode·.Normal ∷ MarketMakerMode·.Passive ∷ MarketMakerMode·.Syndicate ∷ MarketMakerMode·.Presyndicate ∷ []) MarketMakerMode·.Penalty _ (c .match .rest)
+returns-5 c = last-name makerModeByte makerModeNames MarketMakerMode·.Penalty _ (c .match .rest)
 
 pub maker-mode-of-spec : {M : Type 1} → statement M
 maker-mode-of-spec = tie.close (tie.spec returns returns-2 returns-3 returns-4 returns-5)

@@ -1,8 +1,7 @@
 -- `codes::participant_state_of` meets its contract.
 -- Assumes nothing.
-use mathlib.Core.List.{[], _∷_}
 use Rattle.codes.specs.declared.MarketParticipantState.the-variants as MarketParticipantState·
-use Rattle.codes.specs.Names.{participantStateByte, participantStateFrom}
+use Rattle.codes.specs.Names.{participantStateByte, participantStateNames, participantStateFrom}
 use Rattle.codes.proofs.Match.{last-name}
 use Rattle.codes.proofs.participant_state_of.Statement.{statement}
 use Rattle.codes.proofs.participant_state_of.Tie as tie
@@ -25,7 +24,7 @@ returns-4 c = rw (c .match .keys4)
 
 returns-5 : tie.Need-returns-5
 unfolding participantStateFrom participantStateByte
-returns-5 c = last-name participantStateByte (MarketParticipantState·.Active ∷ MarketParticipantState·.Excused ∷ MarketParticipantState·.Withdrawn ∷ MarketParticipantState·.Suspended ∷ []) MarketParticipantState·.Deleted _ (c .match .rest)
+returns-5 c = last-name participantStateByte participantStateNames MarketParticipantState·.Deleted _ (c .match .rest)
 
 pub participant-state-of-spec : {M : Type 1} → statement M
 participant-state-of-spec = tie.close (tie.spec returns returns-2 returns-3 returns-4 returns-5)

@@ -1,8 +1,7 @@
 -- `codes::qualifier_of` meets its contract.
 -- Assumes nothing.
-use mathlib.Core.List.{[], _∷_}
 use Rattle.codes.specs.declared.IpoReleaseQualifier.the-variants as IpoReleaseQualifier·
-use Rattle.codes.specs.Names.{qualifierByte, qualifierFrom}
+use Rattle.codes.specs.Names.{qualifierByte, qualifierNames, qualifierFrom}
 use Rattle.codes.proofs.Match.{last-name}
 use Rattle.codes.proofs.qualifier_of.Statement.{statement}
 use Rattle.codes.proofs.qualifier_of.Tie as tie
@@ -13,7 +12,7 @@ returns c = rw (c .match .keys1)
 
 returns-2 : tie.Need-returns-2
 unfolding qualifierFrom qualifierByte
-returns-2 c = last-name qualifierByte (IpoReleaseQualifier·.Anticipated ∷ []) IpoReleaseQualifier·.Cancelled _ (c .match .rest)
+returns-2 c = last-name qualifierByte qualifierNames IpoReleaseQualifier·.Cancelled _ (c .match .rest)
 
 pub qualifier-of-spec : {M : Type 1} → statement M
 qualifier-of-spec = tie.close (tie.spec returns returns-2)

@@ -1,8 +1,7 @@
 -- `codes::side_of` meets its contract.
 -- Assumes nothing.
-use mathlib.Core.List.{[], _∷_}
 use Rattle.codes.specs.declared.Side.the-variants as Side·
-use Rattle.codes.specs.Names.{sideByte, sideFrom}
+use Rattle.codes.specs.Names.{sideByte, sideNames, sideFrom}
 use Rattle.codes.proofs.Match.{last-name}
 use Rattle.codes.proofs.side_of.Statement.{statement}
 use Rattle.codes.proofs.side_of.Tie as tie
@@ -13,7 +12,7 @@ returns c = rw (c .match .keys1)
 
 returns-2 : tie.Need-returns-2
 unfolding sideFrom sideByte
-returns-2 c = last-name sideByte (Side·.Buy ∷ []) Side·.Sell _ (c .match .rest)
+returns-2 c = last-name sideByte sideNames Side·.Sell _ (c .match .rest)
 
 pub side-of-spec : {M : Type 1} → statement M
 side-of-spec = tie.close (tie.spec returns returns-2)

@@ -1,8 +1,7 @@
 -- `codes::status_of` meets its contract.
 -- Assumes nothing.
-use mathlib.Core.List.{[], _∷_}
 use Rattle.codes.specs.declared.FinancialStatus.the-variants as FinancialStatus·
-use Rattle.codes.specs.Names.{statusByte, statusFrom}
+use Rattle.codes.specs.Names.{statusByte, statusNames, statusFrom}
 use Rattle.codes.proofs.Match.{last-name}
 use Rattle.codes.proofs.status_of.Statement.{statement}
 use Rattle.codes.proofs.status_of.Tie as tie
@@ -49,7 +48,7 @@ returns-10 c = rw (c .match .keys10)
 
 returns-11 : tie.Need-returns-11
 unfolding statusFrom statusByte
-returns-11 c = last-name statusByte (FinancialStatus·.Normal ∷ FinancialStatus·.Deficient ∷ FinancialStatus·.Delinquent ∷ FinancialStatus·.Bankrupt ∷ FinancialStatus·.Suspended ∷ FinancialStatus·.DeficientBankrupt ∷ FinancialStatus·.DeficientDelinquent ∷ FinancialStatus·.DelinquentBankrupt ∷ FinancialStatus·.DeficientDelinquentBankrupt ∷ FinancialStatus·.EtpSuspended ∷ []) FinancialStatus·.Unavailable _ (c .match .rest)
+returns-11 c = last-name statusByte statusNames FinancialStatus·.Unavailable _ (c .match .rest)
 
 pub status-of-spec : {M : Type 1} → statement M
 status-of-spec =

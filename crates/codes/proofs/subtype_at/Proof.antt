@@ -21,7 +21,8 @@ no-u16-requires : tie.Need-no-u16-requires
 no-u16-requires c κs = search needs
 
 returns : tie.Need-returns
-returns c = sym (subtype-short _ _ (c .no-u16 .result) (fault num16M fault16 (c .before .before .before .be-u16 .ensures) (c .before .enum-told .given .1) refl (c .no-u16 .ensures)))
+returns c =
+    sym (subtype-short _ _ (c .no-u16 .result) (fault num16M fault16 (c .before .before .before .be-u16 .ensures) (c .before .enum-told .given .1) refl (c .no-u16 .ensures)))
 
 subtype-of-requires : tie.Need-subtype-of-requires
 subtype-of-requires c κs = search needs

@@ -1,8 +1,7 @@
 -- `codes::tier_of` meets its contract.
 -- Assumes nothing.
-use mathlib.Core.List.{[], _∷_}
 use Rattle.codes.specs.declared.LuldRefPriceTier.the-variants as LuldRefPriceTier·
-use Rattle.codes.specs.Names.{tierByte, tierFrom}
+use Rattle.codes.specs.Names.{tierByte, tierNames, tierFrom}
 use Rattle.codes.proofs.Match.{last-name}
 use Rattle.codes.proofs.tier_of.Statement.{statement}
 use Rattle.codes.proofs.tier_of.Tie as tie
@@ -17,7 +16,7 @@ returns-2 c = rw (c .match .keys2)
 
 returns-3 : tie.Need-returns-3
 unfolding tierFrom tierByte
-returns-3 c = last-name tierByte (LuldRefPriceTier·.Tier1 ∷ LuldRefPriceTier·.Tier2 ∷ []) LuldRefPriceTier·.Na _ (c .match .rest)
+returns-3 c = last-name tierByte tierNames LuldRefPriceTier·.Na _ (c .match .rest)
 
 pub tier-of-spec : {M : Type 1} → statement M
 tier-of-spec = tie.close (tie.spec returns returns-2 returns-3)

@@ -1,8 +1,7 @@
 -- `codes::trading_state_of` meets its contract.
 -- Assumes nothing.
-use mathlib.Core.List.{[], _∷_}
 use Rattle.codes.specs.declared.TradingState.the-variants as TradingState·
-use Rattle.codes.specs.Names.{tradingStateByte, tradingStateFrom}
+use Rattle.codes.specs.Names.{tradingStateByte, tradingStateNames, tradingStateFrom}
 use Rattle.codes.proofs.Match.{last-name}
 use Rattle.codes.proofs.trading_state_of.Statement.{statement}
 use Rattle.codes.proofs.trading_state_of.Tie as tie
@@ -21,7 +20,7 @@ returns-3 c = rw (c .match .keys3)
 
 returns-4 : tie.Need-returns-4
 unfolding tradingStateFrom tradingStateByte
-returns-4 c = last-name tradingStateByte (TradingState·.Halted ∷ TradingState·.Paused ∷ TradingState·.QuotationOnly ∷ []) TradingState·.Trading _ (c .match .rest)
+returns-4 c = last-name tradingStateByte tradingStateNames TradingState·.Trading _ (c .match .rest)
 
 pub trading-state-of-spec : {M : Type 1} → statement M
 trading-state-of-spec = tie.close (tie.spec returns returns-2 returns-3 returns-4)

@@ -29,19 +29,25 @@ same-length c = search needs
 
 returns : tie.Need-returns
 returns c =
-    read-then-write (now (c .before .before .before .before .before .before .before .before .before .before .args .s)) (now (c .before .before .before .before .before .before .before .before .before .before .args .buf)) (c .before .before .before .before .before .before .before .parse-message .result) (c .before .before .before .before .before .w .given .0 .0) (c .before .before .before .before .before .w .given .0 .1 .0)
-    (λ i. c .before .before .before .before .before .before .before .before .before .shared-slice-known .given i .fits) (c .before .before .before .before .before .before .before .parse-message .ensures) (c .before .before .before .before .before .w .given .1) (c .before .before .write .ensures .0) (c .before .before .write .ensures .1)
+    let q = c .before .before .before .before .before .w .given in
+    let p = c .before .before .before .before .before .before .before in
+    let a = p .before .before .before .args in
+    let w = c .before .before .write .ensures in
+    read-then-write (now (a .s)) (now (a .buf)) (p .parse-message .result) (q .0 .0) (q .0 .1 .0) (λ i. p .before .before .shared-slice-known .given i .fits)
+    (p .parse-message .ensures) (q .1) (w .0) (w .1)
 
 returns-2 : tie.Need-returns-2
 returns-2 c =
-    λ m n e l p.
-    absurd (no-message (now (c .before .before .before .before .before .args .s)) (c .before .before .parse-message .result) m n (c .before .before .parse-message .ensures) e
-    (λ q. let z : _≡_ {A = ℕ} 0 1 = cc (c .enum-told .given .1) in omega arith))
+    let p = c .before .before in
+    λ m n e l f.
+    absurd (no-message (now (p .before .before .before .args .s)) (p .parse-message .result) m n (p .parse-message .ensures) e
+    (λ q. let z : _≡_ {A = ℕ} 0 1 = cc in omega arith))
 
 returns-3 : tie.Need-returns-3
 returns-3 c =
-    λ m n e l p.
-    absurd (no-message (now (c .before .before .before .before .before .args .s)) (c .before .before .parse-message .result) m n (c .before .before .parse-message .ensures) e
+    let p = c .before .before in
+    λ m n e l f.
+    absurd (no-message (now (p .before .before .before .args .s)) (p .parse-message .result) m n (p .parse-message .ensures) e
     (λ q. let z : _≡_ {A = ℕ} 0 1 = cc (c .enum-told2 .given .1) in omega arith))
 
 pub read-write-spec : {M : Type 1} → statement M

@@ -17,7 +17,9 @@ same-length c = search needs
 
 returns : tie.Need-returns
 returns c =
-    write-then-read (c .before .before .before .before .before .before .before .args .m) (now (c .before .before .before .before .before .before .before .args .buf)) (c .before .before .before .before .write .ensures .0) (c .before .before .before .before .write .ensures .1) (c .before .before .before .before .write .ensures .2) (c .parse-message .ensures)
+    let p = c .before .before .before .before in
+    let a = p .before .before .before .args in
+    write-then-read (a .m) (now (a .buf)) (p .write .ensures .0) (p .write .ensures .1) (p .write .ensures .2) (c .parse-message .ensures)
 
 pub write-read-spec : {M : Type 1} → statement M
 write-read-spec = tie.close (tie.spec write-requires parse-message-requires same-length returns)
