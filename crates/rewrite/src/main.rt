@@ -1,18 +1,22 @@
 // Reads a recording from standard input, writes every message back and compares: a line for each, its tag and `same` or `other`; then how many there
 // were, how many were the same, and how many bytes of the window are left: of a message cut short, or of the first one that is refused, where it
-// stops. Bytes are taken one by one: each strict prefix of a message is incomplete, so the window is always one message.
+// stops. Bytes are taken one by one: each strict prefix of a message is incomplete, so the window is always one message. A write that fails ends
+// the program, with a word on standard error.
+use libc::STDERR_FILENO;
 use libc::STDIN_FILENO;
 use libc::STDOUT_FILENO;
 use reader::Window;
 use records::Message;
 use writer::Written;
 
+// The window and how many bytes of it are there; how many messages there were, and how many the same; whether to read on; whether no write failed.
 struct State {
     window: [u8; 52],
     have: usize,
     messages: u64,
     same: u64,
     stopped: bool,
+    written: bool,
 }
 
 // Whether the first n bytes are the same.
@@ -30,6 +34,7 @@ fn compared(a: [u8; 52], b: [u8; 52], n: usize) -> bool {
     true
 }
 
+// Whether a message that was read from the first n bytes of the window is written as these bytes.
 fn rewritten(m: Message, window: [u8; 52], n: usize) -> bool {
     let mut out = [0u8; 52];
     let w = writer::write(m, &mut out);
@@ -42,19 +47,24 @@ fn rewritten(m: Message, window: [u8; 52], n: usize) -> bool {
     compared(window, out, n)
 }
 
-fn line(tag: u8, same: bool) {
+// A message's line; whether it could be written.
+fn line(tag: u8, same: bool) -> bool {
     if same {
-        io::write_all(STDOUT_FILENO, &[tag, 32, 115, 97, 109, 101, 10]);
+        io::write_all(STDOUT_FILENO, &[tag, b' ', b's', b'a', b'm', b'e', b'\n'])
     } else {
-        io::write_all(STDOUT_FILENO, &[tag, 32, 111, 116, 104, 101, 114, 10]);
+        io::write_all(
+            STDOUT_FILENO,
+            &[tag, b' ', b'o', b't', b'h', b'e', b'r', b'\n'],
+        )
     }
 }
 
+// A message of n bytes is written back, compared and counted, and the window is empty again.
 fn counted(s: State, m: Message, n: usize) -> State {
     let window = s.window;
     let tag = m.tag;
     let same = rewritten(m, window, n);
-    line(tag, same);
+    let written = line(tag, same);
     if s.messages == u64::MAX {
         return State {
             window,
@@ -62,6 +72,7 @@ fn counted(s: State, m: Message, n: usize) -> State {
             messages: s.messages,
             same: s.same,
             stopped: true,
+            written,
         };
     }
     let mut alike = s.same;
@@ -75,7 +86,8 @@ fn counted(s: State, m: Message, n: usize) -> State {
         have: 0,
         messages: s.messages + 1,
         same: alike,
-        stopped: false,
+        stopped: !written,
+        written,
     }
 }
 
@@ -87,6 +99,7 @@ fn halted(s: State) -> State {
         messages: s.messages,
         same: s.same,
         stopped: true,
+        written: s.written,
     }
 }
 
@@ -104,6 +117,7 @@ fn fed(s: State, b: u8) -> State {
         messages: s.messages,
         same: s.same,
         stopped: false,
+        written: s.written,
     };
     let r = reader::parse_message(&window[..have + 1]);
     match r {
@@ -113,6 +127,7 @@ fn fed(s: State, b: u8) -> State {
     }
 }
 
+// The bytes of a block, up to where it stops.
 fn block(s: State, bytes: &[u8]) -> State {
     let mut state = s;
     let mut i = 0;
@@ -138,6 +153,7 @@ fn read_some(s: State) -> State {
     block(s, &buf[..n])
 }
 
+// All reads: until it stops, or after 2^64 - 1 of them.
 fn read_all() -> State {
     let mut state = State {
         window: [0u8; 52],
@@ -145,6 +161,7 @@ fn read_all() -> State {
         messages: 0,
         same: 0,
         stopped: false,
+        written: true,
     };
     let mut turns = u64::MAX;
     while turns > 0 {
@@ -158,13 +175,21 @@ fn read_all() -> State {
     state
 }
 
+// The last line; whether it could be written.
+fn totals(s: State) -> bool {
+    io::write_all(STDOUT_FILENO, b"messages ")
+        && io::print_decimal(STDOUT_FILENO, s.messages)
+        && io::write_all(STDOUT_FILENO, b" same ")
+        && io::print_decimal(STDOUT_FILENO, s.same)
+        && io::write_all(STDOUT_FILENO, b" left ")
+        && io::print_decimal(STDOUT_FILENO, s.have as u64)
+        && io::write_all(STDOUT_FILENO, b"\n")
+}
+
 fn main() {
     let s = read_all();
-    io::write_all(STDOUT_FILENO, b"messages ");
-    io::print_decimal(STDOUT_FILENO, s.messages);
-    io::write_all(STDOUT_FILENO, b" same ");
-    io::print_decimal(STDOUT_FILENO, s.same);
-    io::write_all(STDOUT_FILENO, b" left ");
-    io::print_decimal(STDOUT_FILENO, s.have as u64);
-    io::write_all(STDOUT_FILENO, b"\n");
+    if s.written && totals(s) {
+        return;
+    }
+    io::write_all(STDERR_FILENO, b"rewrite: a write failed\n");
 }
