@@ -66,16 +66,17 @@ opened s m n e =
     let h : List ℕ = t ∷ be (part s 3 2) ∷ be (part s 5 2) ∷ be (part s 7 6) ∷ [] in
     let p = pre-accepted h (bodyOf t s) (messageValues m) n (sym (window-there s l) ∙ e) in
     let d = body-read t s (p .0) n (p .1) in
+    let at : (i : ℕ) → getD (messageValues m) i 0 ≡ getD (h ++ p .0) i 0 = λ i. sym (ap (λ vs. getD vs i 0) (p .2)) in
     let qw : p .0 ≡ values (m .body) = ap (drop 4) (p .2) in
     let qv : t ∷ d .0 ≡ values (m .body) = d .2 ∙ qw in
     let qt : t ≡ tagOf (m .body) = ap (λ vs. getD vs 0 0) qv in
     record {
       long = l;
-      tag = sym (ap (λ vs. getD vs 0 0) (p .2));
-      locate = sym (ap (λ vs. getD vs 1 0) (p .2));
-      tracking = sym (ap (λ vs. getD vs 2 0) (p .2));
-      stamp = sym (ap (λ vs. getD vs 3 0) (p .2));
-      agrees = sym (ap (λ vs. getD vs 0 0) (p .2)) ∙ qt;
+      tag = at 0;
+      locate = at 1;
+      tracking = at 2;
+      stamp = at 3;
+      agrees = at 0 ∙ qt;
       fields = subst (λ k. Reads s (layout k) 13 (fieldsOf (m .body))) qt (subst (Reads s (layout t) 13) (ap (drop 1) qv) (d .1));
     })
     (λ l. let z : _≡_ {A = ℕ} 0 1 = cc (window-cut s l) in absurd (omega arith))
@@ -93,12 +94,7 @@ head-reads s h =
 
 head-bytes : (s : List ℕ) (m : Message) → Bytes s → Opened s m → write (drop 1 header) (drop 1 (headOf m)) ≡ part s 2 11
 head-bytes s m b o =
-    ap (λ v. write (drop 1 header) (v ∷ m .«stock_locate» ∷ m .«tracking_number» ∷ m .timestamp ∷ [])) (o .tag)
-    ∙ ap (λ v. write (drop 1 header) (getD s 2 0 ∷ v ∷ m .«tracking_number» ∷ m .timestamp ∷ [])) (o .locate)
-    ∙ ap (λ v. write (drop 1 header) (getD s 2 0 ∷ be (part s 3 2) ∷ v ∷ m .timestamp ∷ [])) (o .tracking)
-    ∙ ap (λ v. write (drop 1 header) (getD s 2 0 ∷ be (part s 3 2) ∷ be (part s 5 2) ∷ v ∷ [])) (o .stamp)
-    ∙ took-row (head-reads s (o .long)) b .0
-    ∙ parts-row (drop 1 header) s 2
+    rw (o .tag, o .locate, o .tracking, o .stamp) (took-row (head-reads s (o .long)) b .0 ∙ parts-row (drop 1 header) s 2)
 
 -- what was read is written where the buffer holds it, as the size and the consumed bytes behind the length, tidied
 written-again : (s : List ℕ) (m : Message) (n room : ℕ) → Bytes s → windowM (Accepted m n) ≡ window s → n ≤ room

@@ -8,7 +8,7 @@ use Prim.Native.Nat.{ℕ, _+_, _^_}
 use lib.Dec.{eqb, ltb, leb}
 use lib.ListN.{length, drop}
 use borrow.Author.Tests.{eqb-true}
-use Rattle.format.specs.Layout.{widths, accepted, read}
+use Rattle.format.specs.Layout.{Kind, widths, accepted, read}
 use Rattle.format.specs.Rows.{rows, Found, found, none, find, fieldsIn, sizeIn, sizeOf, under, header, message, window}
 use Rattle.format.proofs.Runs.{Reads, reads}
 use Rattle.pen.specs.Encode.{write, layout, Sized}
@@ -62,29 +62,34 @@ body-under : (t : ℕ) (s : List ℕ) (at : ℕ) (vs : List ℕ) → sizeOf t �
 unfolding layout sizeOf
 body-under t s at vs h = under-known (find rows t) s at vs h
 
+-- a message's bytes: its header's, and its body's
+abbrev headBytes : Message → List ℕ
+headBytes m = write header (headOf m)
+
+abbrev bodyBytes : Message → List ℕ
+bodyBytes m = write (layout (tagOf (m .body))) (fieldsOf (m .body))
+
 module _ (m : Message) (n : ℕ) (a : Accepts m n) (h : Sized header (headOf m)) (b : Sized (layout (tagOf (m .body))) (fieldsOf (m .body))) where
-  reads-header : (q : List ℕ) → Reads (write header (headOf m) ++ q) header 0 (headOf m)
+  reads-header : (q : List ℕ) → Reads (headBytes m ++ q) header 0 (headOf m)
   reads-header q = reads-write header (headOf m) refl h refl refl [] q
 
-  reads-body : (q : List ℕ) → Reads (write header (headOf m) ++ (write (layout (tagOf (m .body))) (fieldsOf (m .body)) ++ q)) (layout (tagOf (m .body))) 13 (fieldsOf (m .body))
+  reads-body : (q : List ℕ) → Reads (headBytes m ++ (bodyBytes m ++ q)) (layout (tagOf (m .body))) 13 (fieldsOf (m .body))
   unfolding textsOf
   reads-body q =
-      let r = reads-write (layout (tagOf (m .body))) (fieldsOf (m .body)) (whole (m .body) .1) b (a .texts) (codes (m .body) (a .crosses)) (write header (headOf m)) q in
-      subst
-      (λ x. Reads (write header (headOf m) ++ (write (layout (tagOf (m .body))) (fieldsOf (m .body)) ++ q)) (layout (tagOf (m .body))) x (fieldsOf (m .body)))
-      (length-write header (headOf m)) r
+      let ks : List Kind = layout (tagOf (m .body)) in
+      let r = reads-write ks (fieldsOf (m .body)) (whole (m .body) .1) b (a .texts) (codes (m .body) (a .crosses)) (headBytes m) q in
+      subst (λ x. Reads (headBytes m ++ (bodyBytes m ++ q)) ks x (fieldsOf (m .body))) (length-write header (headOf m)) r
 
   window-encode : (q : List ℕ) → window (encode m ++ q) ≡ accepted (messageValues m) n
   unfolding encode window
   window-encode q =
       let t : ℕ = tagOf (m .body) in
-      let d : List ℕ = write (layout t) (fieldsOf (m .body)) in
-      let s : List ℕ = write header (headOf m) ++ (d ++ q) in
+      let s : List ℕ = headBytes m ++ (bodyBytes m ++ q) in
       let v : List ℕ = m .tag ∷ m .«stock_locate» ∷ m .«tracking_number» ∷ m .timestamp ∷ [] in
-      let e : (write header (headOf m) ++ write (layout (m .tag)) (fieldsOf (m .body))) ++ q ≡ s =
-      append-assoc (write header (headOf m)) (write (layout (m .tag)) (fieldsOf (m .body))) q
-      ∙ ap (λ k. write header (headOf m) ++ (write (layout k) (fieldsOf (m .body)) ++ q)) (a .agrees) in
-      let g : read header s 0 [] (message s) ≡ message s (headOf m) 13 = reads (reads-header (d ++ q)) [] (message s) in
+      let e : (headBytes m ++ write (layout (m .tag)) (fieldsOf (m .body))) ++ q ≡ s =
+      append-assoc (headBytes m) (write (layout (m .tag)) (fieldsOf (m .body))) q
+      ∙ ap (λ k. headBytes m ++ (write (layout k) (fieldsOf (m .body)) ++ q)) (a .agrees) in
+      let g : read header s 0 [] (message s) ≡ message s (headOf m) 13 = reads (reads-header (bodyBytes m ++ q)) [] (message s) in
       let k : message s (headOf m) 13 ≡ under (find rows t) s 13 (v ++ (t ∷ [])) = ap (λ k. under (find rows k) s 13 (v ++ (k ∷ []))) (a .agrees) in
       let u : under (find rows t) s 13 (v ++ (t ∷ [])) ≡ read (layout t) s 13 (v ++ (t ∷ [])) accepted = body-under t s 13 (v ++ (t ∷ [])) (body-size (m .body)) in
       let r : read (layout t) s 13 (v ++ (t ∷ [])) accepted ≡ accepted ((v ++ (t ∷ [])) ++ fieldsOf (m .body)) (13 + widths (layout t)) =

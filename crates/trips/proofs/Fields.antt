@@ -2,7 +2,7 @@
 -- Assumes nothing.
 use mathlib.Core.Path.{_≡_, refl, sym, ap, _∙_, subst}
 use mathlib.Core.List.{List, [], _∷_, _++_, append-assoc}
-use mathlib.Core.Bool.{Bool, true, false, cond, not, _&&_}
+use mathlib.Core.Bool.{Bool, true, false, cond, not, _&&_, false≢true}
 use Prim.Native.Nat.{ℕ, zero, suc, _+_, _*_, _^_, _/_, _%_, _≤_, _<_}
 use native.Mathlib.Nat.{pow-suc}
 use native.Mathlib.Numerals.{add-one}
@@ -36,13 +36,9 @@ abbrev pub codesFine : List Kind → List ℕ → Bool
 codesFine [] vs = true
 codesFine (k ∷ ks) vs = codeFine k (valueOf k vs) && codesFine ks (rest k vs)
 
-pub left : (a b : Bool) → a && b ≡ true → a ≡ true
-left true b e = refl
-left false b e = e
-
-pub right : (a b : Bool) → a && b ≡ true → b ≡ true
-right true b e = e
-right false b e = let z : _≡_ {A = ℕ} 0 1 = cc in absurd (omega arith)
+pub and-split : (a b : Bool) → a && b ≡ true → (a ≡ true) × (b ≡ true)
+and-split true b e = (refl, e)
+and-split false b e = absurd (false≢true e)
 
 -- the values that a field gives
 abbrev given : Kind → List ℕ → List ℕ
@@ -76,9 +72,8 @@ judged (text w) vs s t c = rw t (ap (λ n. fine (n ∷ [])) (be-digits w (getD v
 judged (code set) vs s t c = rw (be-digits 1 (getD vs 0 0) s, c)
 judged etp vs s t c =
     let v : ℕ = getD vs 0 0 in
-    let q : not (eqb v 'M') ≡ true = left (not (eqb v 'M')) (member v etpFlag) c in
-    let r : member v etpFlag ≡ true = right (not (eqb v 'M')) (member v etpFlag) c in
-    rw (be-digits 1 v s, r) (go (eqb v 'M') v q)
+    let p = and-split (not (eqb v 'M')) (member v etpFlag) c in
+    rw (be-digits 1 v s, p .1) (go (eqb v 'M') v (p .0))
   where
     go : (b : Bool) (v : ℕ) → not b ≡ true → fine (cond b 'Y' v ∷ []) ≡ fine (v ∷ [])
     go true v e = let z : _≡_ {A = ℕ} 0 1 = cc in absurd (omega arith)
@@ -102,11 +97,11 @@ reads-write [] (v ∷ vs) n s t c p q = absurd (omega arith)
 reads-write (k ∷ ks) vs n s t c p q =
     let d : List ℕ = digits (width k) (valueOf k vs) in
     let y = split k vs (count ks) n in
-    let j : judge k d ≡ fine (given k vs) =
-    judged k vs (s .0) (left (textFine k (valueOf k vs)) (textsFine ks (rest k vs)) t) (left (codeFine k (valueOf k vs)) (codesFine ks (rest k vs)) c) in
+    let u = and-split (textFine k (valueOf k vs)) (textsFine ks (rest k vs)) t in
+    let v = and-split (codeFine k (valueOf k vs)) (codesFine ks (rest k vs)) c in
+    let j : judge k d ≡ fine (given k vs) = judged k vs (s .0) (u .0) (v .0) in
     let r : Reads ((p ++ d) ++ (write ks (rest k vs) ++ q)) ks (length (p ++ d)) (rest k vs) =
-    reads-write ks (rest k vs) (y .1) (s .1) (right (textFine k (valueOf k vs)) (textsFine ks (rest k vs)) t)
-    (right (codeFine k (valueOf k vs)) (codesFine ks (rest k vs)) c) (p ++ d) q in
+    reads-write ks (rest k vs) (y .1) (s .1) (u .1) (v .1) (p ++ d) q in
     let a : p ++ ((d ++ write ks (rest k vs)) ++ q) ≡ p ++ (d ++ (write ks (rest k vs) ++ q)) = ap (λ x. p ++ x) (append-assoc d (write ks (rest k vs)) q) in
     let b : (p ++ d) ++ (write ks (rest k vs) ++ q) ≡ p ++ (d ++ (write ks (rest k vs) ++ q)) = append-assoc p d (write ks (rest k vs) ++ q) in
     let m : length (p ++ d) ≡ length p + width k = length-append p d ∙ ap (λ m. length p + m) (length-digits (width k) (valueOf k vs)) in

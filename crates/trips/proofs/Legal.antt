@@ -25,7 +25,7 @@ use Rattle.records.specs.declared.Body.the-variants as Body·
 use Rattle.records.specs.Values.{orderValues, values}
 use Rattle.writer.specs.Writing.{tagOf, fieldsOf, intraday}
 use Rattle.writer.proofs.Says.{count, body-count}
-use Rattle.trips.proofs.Fields.{codeFine, codesFine, left, right}
+use Rattle.trips.proofs.Fields.{codeFine, codesFine, and-split}
 
 -- every name's byte is a code of the set: a test over the names
 abbrev Legal : {A : Type 0} → (A → ℕ) → List ℕ → Type 0
@@ -186,7 +186,7 @@ no-intraday vs h = go (eqb (getD vs 0 0) 'I') refl
         let i : Bool = member (getD us 0 0) imbalanceCross in
         let q : d && (i && true) ≡ true = subst (λ t. codesFine (layout t) (drop 1 vs) ≡ true) (eqb-true (getD vs 0 0) 'I' e) h in
         let c : getD us 0 0 ≡ getD vs 8 0 = simp getD-drop in
-        rw c at (not-intraday (getD us 0 0) (left i true (right d (i && true) q)))
+        rw c at (not-intraday (getD us 0 0) (and-split i true (and-split d (i && true) q .1) .0))
     go false e = refl
 
 -- a body's values are its tag and its fields, one for each field of its row that is kept
