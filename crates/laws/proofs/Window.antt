@@ -33,7 +33,7 @@ abbrev sized : List Row → Bool
 sized [] = true
 sized (r ∷ rs) = (eqb (r .size) (11 + widths (r .body)) && leb (r .size) 50) && sized rs
 
-abbrev Sized : Found → Type 0
+abbrev pub Sized : Found → Type 0
 Sized (found r) = (r .size ≡ 11 + widths (r .body)) × (r .size ≤ 50)
 Sized none = Unit {0}
 
@@ -49,6 +49,9 @@ find-sized (r ∷ rs) q t = go (eqb (r .tag) t) (find-sized rs (b .1) t)
         let p = both (eqb (r .size) (11 + widths (r .body))) (leb (r .size) 50) (b .0) in
         (eqb→eq (r .size) (11 + widths (r .body)) (p .0), leb→le (r .size) 50 (p .1))
     go false h = h
+
+pub rows-sized : (t : ℕ) → Sized (find rows t)
+rows-sized t = find-sized rows tt t
 
 -- values in front of an answer
 firm-pre : (acc : List ℕ) (a : Answer) → Firm a → Firm (pre acc a)
@@ -70,7 +73,7 @@ pub window-enough : (s : List ℕ) → 52 ≤ length s → Firm (window s)
 unfolding bodyOf
 window-enough s l e =
     let t : ℕ = getD s 2 0 in
-    firm-pre _ (bodyOf t s) (under-enough (find rows t) s (t ∷ []) (find-sized rows tt t) l) (sym (window-there s (omega arith)) ∙ e)
+    firm-pre _ (bodyOf t s) (under-enough (find rows t) s (t ∷ []) (rows-sized t) l) (sym (window-there s (omega arith)) ∙ e)
 
 -- what an accepted message consumed
 under-covers : (f : Found) (s us vs : List ℕ) (n : ℕ) → Sized f → 13 ≤ length s → under f s 13 us ≡ accepted vs n → (n ≡ 2 + sizeIn f) × (n ≤ length s) × (13 ≤ n)
@@ -90,7 +93,7 @@ window-covers s vs n e =
     let t : ℕ = getD s 2 0 in
     let a = pre-accepted _ (bodyOf t s) vs n (sym (window-there s l) ∙ e) in
     let q : t ≡ getD vs 0 0 = ap (λ ws. getD ws 0 0) (a .2) in
-    rw q at (under-covers (find rows t) s (t ∷ []) (a .0) n (find-sized rows tt t) l (a .1)))
+    rw q at (under-covers (find rows t) s (t ∷ []) (a .0) n (rows-sized t) l (a .1)))
     (λ l. let z : _≡_ {A = ℕ} 0 1 = cc (window-cut s l) in absurd (omega arith))
     (le-or-lt 13 (length s))
 

@@ -1,0 +1,2 @@
+pub mod Accepts
+mod Stock
