@@ -23,11 +23,14 @@ sum-raised (x ∷ c) zero h = omega arith
 sum-raised (x ∷ c) (suc k) h = let e = sum-raised c k (omega arith) in omega arith
 
 -- no counter is above the sum
-pub below-sum : (c : List ℕ) (k : ℕ) → getD c k 0 ≤ sum c
+below-sum : (c : List ℕ) (k : ℕ) → getD c k 0 ≤ sum c
 unfolding sum
 below-sum [] k = omega arith
 below-sum (x ∷ c) zero = omega arith
 below-sum (x ∷ c) (suc k) = let e = below-sum c k in omega arith
+
+pub counter-below : {c : List ℕ} {n : ℕ} (k : ℕ) → Counters c n → getD c k 0 ≤ n
+counter-below {c} k p = omega (arith, below-sum c k, p .total)
 
 -- a message raises its counter, and so the count
 raises : (c : List ℕ) (m : Record) (n : ℕ) → Counters c n → m .tag < 256 → Counters (raised c m) (n + 1)

@@ -1,2 +1,3 @@
 pub mod Counting
+mod Skimming
 pub mod Turns

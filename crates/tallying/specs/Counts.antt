@@ -30,6 +30,11 @@ pub data Taken (b : List ℕ) (s : Stream) (c : List ℕ) : Stream → List ℕ 
   none : Taken b s c s c
   more : {t : Stream} {d : List ℕ} → Taken b s c t d → (m : Record) → nextOf t b .answer ≡ Message m → Taken b s c (nextOf t b .state) (raised d m)
 
+-- some of the window's messages: r is the state behind them, and the counters have counted them
+pub record Skimmed (b : List ℕ) (s : Stream) (c : List ℕ) (r : Stream) (d : List ℕ) : Type 0 where
+  pub taken : Taken b s c r d
+  pub counted : Counters d (r .messages)
+
 -- all that the window has: r is the first answer that is not a message, and the counters have counted its messages
 pub record Drained (b : List ℕ) (s : Stream) (c : List ℕ) (r : Step) (d : List ℕ) : Type 0 where
   pub last : Stream

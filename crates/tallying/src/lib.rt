@@ -6,19 +6,26 @@ ghost use Prim.Native.Nat.{_+_, _≤_};
 ghost use lib.ListN.{length};
 ghost use Rattle.text.specs.Decimal.{Wrote};
 ghost use Rattle.tally_lines.specs.Lines.{tallyOf};
+ghost use Rattle.plain.specs.Plain.{Table};
 ghost use Rattle.stream.specs.declared.Answer.the-variants.{Ready};
 ghost use Rattle.stream_laws.specs.Ends.{stops};
-ghost use Rattle.tallying.specs.Counts.{Counters, Drained, ReadSome};
+ghost use Rattle.tallying.specs.Counts.{Counters, Skimmed, Drained, ReadSome};
 use stream::Answer;
 use stream::Step;
 use stream::Stream;
 
-// Takes and counts the plain messages in front.
-fn skim(s0: Stream, b: &[u8], rows: &[u64; 256], count: &mut [u64]) -> Stream {
+// Takes and counts the plain messages in front, with no jump by tag or side.
+fn skim(s0: Stream, b: &[u8], rows: &[u64; 256], count: &mut [u64]) -> Stream
+    requires { ⌜ Counters (now count) (s0 .messages) × (length (now b) ≡ 8192) × Table (now rows) ⌝ }
+    ensures { λ r. ⌜ Skimmed (now (b .entry)) s0 (now (count .entry)) r (now (count .exit)) ⌝ }
+{
     let mut s = s0;
     loop {
         let start = s.start;
         let end = s.end;
+        let bytes_read = s.bytes_read;
+        let read_calls = s.read_calls;
+        let messages = s.messages;
         if start > end {
             return s;
         }
@@ -30,8 +37,7 @@ fn skim(s0: Stream, b: &[u8], rows: &[u64; 256], count: &mut [u64]) -> Stream {
         if n == 0 {
             return s;
         }
-        let messages = s.messages;
-        if messages == 18446744073709551615 {
+        if messages >= 18446744073709551615 {
             return s;
         }
         let k = w[2] as usize;
@@ -39,8 +45,8 @@ fn skim(s0: Stream, b: &[u8], rows: &[u64; 256], count: &mut [u64]) -> Stream {
         s = Stream {
             start: start + n,
             end,
-            bytes_read: s.bytes_read,
-            read_calls: s.read_calls,
+            bytes_read,
+            read_calls,
             messages: messages + 1,
             error: false,
         };
@@ -49,7 +55,7 @@ fn skim(s0: Stream, b: &[u8], rows: &[u64; 256], count: &mut [u64]) -> Stream {
 
 // Takes and counts the window's messages, to the first answer that is none. The loop has this one way out, so that it stays small.
 fn drain(s0: Stream, b: &[u8], rows: &[u64; 256], count: &mut [u64]) -> Step
-    requires { ⌜ Counters (now count) (s0 .messages) ⌝ }
+    requires { ⌜ Counters (now count) (s0 .messages) × (length (now b) ≡ 8192) × Table (now rows) ⌝ }
     ensures { λ r. ⌜ Drained (now (b .entry)) s0 (now (count .entry)) r (now (count .exit)) ⌝ }
 {
     let mut s = s0;

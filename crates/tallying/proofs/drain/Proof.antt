@@ -1,29 +1,27 @@
 -- `tallying::drain` meets its contract. What falls each turn: the messages that the count still allows.
 -- Assumes nothing.
-use Prim.Native.Nat.{_+_, _-_}
+use Prim.Native.Nat.{_-_}
 use mathlib.Core.Path.{_≡_, sym, _∙_}
 use native.Mathlib.Omega.{arith}
 use Rattle.stream_laws.proofs.Calls.{not-message}
-use Rattle.tallying.specs.Counts.{Counters, Taken, none}
-use Rattle.tallying.proofs.Counting.{below-sum, rises, again, counts}
+use Rattle.tallying.specs.Counts.{Skimmed, none}
+use Rattle.tallying.proofs.Counting.{counter-below, rises, again, counts}
+use Rattle.tallying.proofs.Skimming.{onward, skimmed-rises}
 use borrow.Author.Needs.{needs}
 use Rattle.tallying.proofs.drain.Statement.{statement}
 use Rattle.tallying.proofs.drain.Tie as tie
 
 abbrev Inv-loop : tie.InvT-loop
-Inv-loop b count₀ s₀ count s = Taken b s₀ count₀ s count × Counters count (s .messages)
+Inv-loop b rows count₀ s₀ count s = Skimmed b s₀ count₀ s count
 
 abbrev μ-loop : tie.MeasureT-loop
-μ-loop b count₀ s₀ count s = 18446744073709551616 - s .messages
-
--- the message that was answered raises the count
-one-more : (c : tie.After-answer Inv-loop μ-loop) → c .before .before .before .next-of .result .state .messages ≡ c .before .before .before .before .loop .s .messages + 1
-one-more c =
-    let n = c .before .before .before .next-of in
-    rises (c .before .before .before .before .before .before .before .args .b .now) _ (n .result) (c .answer .given .0 .0) (n .ensures) (c .answer .given .1)
+μ-loop b rows count₀ s₀ count s = 18446744073709551616 - s .messages
 
 loop-holds : tie.Need-loop-holds Inv-loop μ-loop
-loop-holds c = (none, c .before .before .pre)
+loop-holds c = record { taken = none; counted = c .before .before .pre .0 }
+
+skim-requires : tie.Need-skim-requires Inv-loop μ-loop
+skim-requires c κs = (c .before .loop .inv .counted, c .before .before .before .before .pre .1, c .before .before .before .before .pre .2)
 
 next-of-requires : tie.Need-next-of-requires Inv-loop μ-loop
 next-of-requires c κs = search needs
@@ -32,56 +30,39 @@ enum-known-answer : tie.Need-enum-known-answer Inv-loop μ-loop
 enum-known-answer c = search needs
 
 same-length : tie.Need-same-length Inv-loop μ-loop
-same-length c = c .before .before .before .loop .inv .1 .all ∙ sym (c .before .before .before .before .before .before .pre .all)
+same-length c = c .before .before .before .before .before .skim .ensures .counted .all ∙ sym (c .before .before .before .before .before .before .before .before .before .before .pre .0 .all)
 
 returns : tie.Need-returns Inv-loop μ-loop
 returns c =
-    let l = c .before .before .before .loop in
-    let n = c .before .before .next-of in
-    let f = not-message (c .match .keys2) in
-    record {
-      last = l .s;
-      taken = l .inv .0;
-      step = n .ensures;
-      stops = f;
-      counted = counts (c .before .before .before .before .before .before .args .b .now) (l .s) (l .count) (n .result) (l .inv .1) (n .ensures) f;
-    }
+    let p = onward (c .before .before .before .before .before .before .before .loop .inv) (c .before .before .before .before .before .skim .ensures) in
+    record { last = c .before .before .before .before .before .skim .result; taken = p .taken; step = c .before .before .next-of .ensures; stops = not-message (c .match .keys2); counted = counts _ _ _ _ (p .counted) (c .before .before .next-of .ensures) (not-message (c .match .keys2)) }
 
 cast-k : tie.Need-cast-k Inv-loop μ-loop
 cast-k c = search needs
 
 mul-count : tie.Need-mul-count Inv-loop μ-loop
-mul-count c = omega (arith, c .before .before .before .before .before .before .loop .inv .1 .all)
+mul-count c = omega (arith, c .before .before .before .before .before .before .before .before .skim .ensures .counted .all)
 
 slice-read-count : tie.Need-slice-read-count Inv-loop μ-loop
-slice-read-count c = omega (arith, c .before .before .before .before .before .before .before .loop .inv .1 .all)
+slice-read-count c = omega (arith, c .before .before .before .before .before .before .before .before .before .skim .ensures .counted .all)
 
 add-count : tie.Need-add-count Inv-loop μ-loop
-add-count c =
-    omega (
-      arith,
-      one-more (c .before .before .before),
-      below-sum (c .before .before .before .before .before .before .before .loop .count) (c .before .before .before .answer .given .0 .0 .tag),
-      c .before .before .before .before .before .before .before .loop .inv .1 .total,
-    )
+add-count c = omega (arith, c .before .before .before .before .before .before .next-of .ok, rises _ _ _ _ (c .before .before .before .before .before .before .next-of .ensures) (c .before .before .before .answer .given .1), counter-below (c .before .before .before .answer .given .0 .0 .tag) (c .before .before .before .before .before .before .before .before .before .skim .ensures .counted))
 
 mul-count-2 : tie.Need-mul-count-2 Inv-loop μ-loop
-mul-count-2 c = omega (arith, c .before .before .before .before .before .before .before .loop .inv .1 .all)
+mul-count-2 c = omega (arith, c .before .before .before .before .before .before .before .before .before .skim .ensures .counted .all)
 
 slice-write-count : tie.Need-slice-write-count Inv-loop μ-loop
-slice-write-count c = omega (arith, c .before .before .before .before .before .before .before .loop .inv .1 .all)
+slice-write-count c = omega (arith, c .before .before .before .before .before .before .before .before .before .skim .ensures .counted .all)
 
 loop-less : tie.Need-loop-less Inv-loop μ-loop
-loop-less c = omega (arith, one-more (c .before .before .before))
+loop-less c = omega (arith, c .before .before .before .before .before .before .next-of .ok, rises _ _ _ _ (c .before .before .before .before .before .before .next-of .ensures) (c .before .before .before .answer .given .1), skimmed-rises (c .before .before .before .before .before .before .before .before .before .skim .ensures))
 
 loop-again : tie.Need-loop-again Inv-loop μ-loop
 loop-again c =
-    let a = c .before .before .before .before .before .before .before .before .before .before .args in
-    let l = c .before .before .before .before .before .before .before .loop in
-    let n = c .before .before .before .before .before .before .next-of in
-    let an = c .before .before .before .answer in
-    again (a .b .now) (a .s0) (a .count .now) (l .s) (l .count) (n .result) (an .given .0 .0) (l .inv .0) (l .inv .1) (n .ensures) (an .given .1)
-    (search needs)
+    let p = onward (c .before .before .before .before .before .before .before .before .before .before .before .loop .inv) (c .before .before .before .before .before .before .before .before .before .skim .ensures) in
+    let q = again _ _ _ _ _ _ _ (p .taken) (p .counted) (c .before .before .before .before .before .before .next-of .ensures) (c .before .before .before .answer .given .1) (search needs) in
+    record { taken = q .0; counted = q .1 }
 
 pub drain-spec : {M : Type 1} → statement M
 drain-spec =
@@ -90,6 +71,7 @@ drain-spec =
     Inv-loop
     μ-loop
     loop-holds
+    skim-requires
     next-of-requires
     enum-known-answer
     same-length

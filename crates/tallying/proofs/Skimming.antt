@@ -1,0 +1,75 @@
+-- A plain message in front is the one that next answers; and what was skimmed goes on from what was taken before.
+-- Assumes nothing.
+use Prim.Native.Nat.{ℕ, _+_, _-_, _≤_, _<_}
+use mathlib.Core.Path.{_≡_, refl, sym, ap, subst, _∙_}
+use mathlib.Core.Bool.{false}
+use mathlib.Core.List.{List}
+use native.Mathlib.Omega.{arith}
+use borrow.Author.Tests.{le-leb, eq-eqb, ne-eqb}
+use lib.ListN.{length, getD, set}
+use Rattle.format.proofs.Bytes.{Bytes}
+use Rattle.records.specs.declared.Message.{Message as Record}
+use Rattle.reader.specs.declared.Window.the-variants.{Message as Accepted}
+use Rattle.reader.specs.Window.{windowOf}
+use Rattle.plain.specs.Plain.{Table, plainOf}
+use Rattle.plain.proofs.Accepts.{Front, plain-accepts}
+use Rattle.stream.specs.declared.Stream.{Stream}
+use Rattle.stream.specs.declared.Step.{Step}
+use Rattle.stream.specs.Next.{windowAt, taken, nextOf}
+use Rattle.stream.proofs.Windows.{within}
+use Rattle.stream_laws.proofs.Calls.{next-message}
+use Rattle.tallying.specs.Counts.{Counters, Taken, none, more, Skimmed}
+use Rattle.tallying.proofs.Counting.{again}
+
+-- a message in front that is taken, and what is read of it
+pub record Takes (s : Stream) (b : List ℕ) (n : ℕ) : Type 0 where
+  message : Record
+  next : taken s message n ≡ nextOf s b
+  tag : message .tag ≡ getD (windowAt s b) 2 0
+  pub byte : getD (windowAt s b) 2 0 < 256
+  pub long : 52 ≤ length (windowAt s b)
+  pub inside : n ≤ s .end - s .start
+
+accepted-next : (s : Stream) (b : List ℕ) (m : Record) (n : ℕ) → length b ≡ 8192 → s .start ≤ s .end → s .end ≤ 8192
+    → windowOf (windowAt s b) ≡ Accepted m n → (s .messages ≡ 18446744073709551615 → ⊥) → nextOf s b ≡ taken s m n
+unfolding nextOf
+accepted-next s b m n h p q e f = simp (eq-eqb _ _ h, le-leb _ _ p, le-leb _ _ q, e, ne-eqb _ _ f)
+
+pub takes : (s : Stream) (b rows : List ℕ) (n : ℕ) → Table rows → length b ≡ 8192 → s .start ≤ s .end → s .end ≤ 8192 → Bytes (windowAt s b)
+    → n ≡ plainOf (windowAt s b) rows → (n ≡ 0 → ⊥) → s .messages < 18446744073709551615 → Takes s b n
+takes s b rows n t h p q y e z f =
+    let a = plain-accepts (windowAt s b) rows n y t (sym e) (omega (arith, z)) in
+    let m = a .0 .message in
+    record {
+      message = m;
+      next = sym (accepted-next s b m n h p q (a .0 .accepted) (λ i. omega arith));
+      tag = a .0 .tag;
+      byte = y 2;
+      long = a .1;
+      inside = within s b m n (a .0 .accepted);
+    }
+
+-- it is counted under its tag
+pub skims : (b : List ℕ) (s₀ : Stream) (c₀ : List ℕ) (s : Stream) (c : List ℕ) (n k : ℕ) → Skimmed b s₀ c₀ s c → Takes s b n → k ≡ getD (windowAt s b) 2 0
+    → Skimmed b s₀ c₀
+    (record { start = s .start + n; end = s .end; «bytes_read» = s .«bytes_read»; «read_calls» = s .«read_calls»; messages = s .messages + 1; error = false })
+    (set c k (getD c k 0 + 1))
+skims b s₀ c₀ s c n k p t e =
+    let g : k ≡ t .message .tag = e ∙ sym (t .tag) in
+    let a = again b s₀ c₀ s c (taken s (t .message) n) (t .message) (p .taken) (p .counted) (t .next) refl (omega (arith, t .tag, t .byte)) in
+    rw g (record { taken = a .0; counted = a .1 })
+
+-- messages taken behind messages taken
+joined : {b : List ℕ} {s : Stream} {c : List ℕ} {t : Stream} {d : List ℕ} {u : Stream} {e : List ℕ} → Taken b s c t d → Taken b t d u e → Taken b s c u e
+joined p none = p
+joined p (more q m e) = more (joined p q) m e
+
+pub onward : {b : List ℕ} {s : Stream} {c : List ℕ} {t : Stream} {d : List ℕ} {u : Stream} {e : List ℕ} → Skimmed b s c t d → Skimmed b t d u e → Skimmed b s c u e
+onward p q = record { taken = joined (p .taken) (q .taken); counted = q .counted }
+
+rising : {b : List ℕ} {s : Stream} {c : List ℕ} {t : Stream} {d : List ℕ} → Taken b s c t d → s .messages ≤ t .messages
+rising none = omega arith
+rising {b = b} (more {t = t} p m e) = omega (arith, rising p, next-message t b m e .messages)
+
+pub skimmed-rises : {b : List ℕ} {s : Stream} {c : List ℕ} {t : Stream} {d : List ℕ} → Skimmed b s c t d → s .messages ≤ t .messages
+skimmed-rises p = rising (p .taken)
