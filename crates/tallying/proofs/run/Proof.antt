@@ -1,0 +1,85 @@
+-- `tallying::run` meets its contract. What falls each turn: the reads that the count still allows.
+-- Assumes nothing.
+use Prim.Native.Nat.{_-_}
+use mathlib.Core.Path.{_≡_, sym, _∙_}
+use native.Mathlib.Omega.{arith}
+use lib.ListN.{length}
+use Rattle.stream_laws.proofs.Calls.{not-wants, not-ready}
+use Rattle.tallying.specs.Counts.{Counters}
+use Rattle.tallying.proofs.Counting.{counters-on, drained-calls, drained-stops}
+use borrow.Author.Needs.{needs}
+use Rattle.tallying.proofs.run.Statement.{statement}
+use Rattle.tallying.proofs.run.Tie as tie
+
+abbrev Inv-loop : tie.InvT-loop
+Inv-loop count₀ buf₀ rows s₀ count buf s = Counters count (s .messages) × (length buf ≡ 8192)
+
+abbrev μ-loop : tie.MeasureT-loop
+μ-loop count₀ buf₀ rows s₀ count buf s = 18446744073709551616 - s .«read_calls»
+
+rows-requires : tie.Need-rows-requires Inv-loop μ-loop
+rows-requires c κs = search needs
+
+fresh-requires : tie.Need-fresh-requires Inv-loop μ-loop
+fresh-requires c κs = search needs
+
+loop-holds : tie.Need-loop-holds Inv-loop μ-loop
+loop-holds c = (rw (c .fresh .ensures) (c .before .before .before .pre), search needs)
+
+slice-aggregate-drain : tie.Need-slice-aggregate-drain Inv-loop μ-loop
+slice-aggregate-drain c = search needs
+
+drain-requires : tie.Need-drain-requires Inv-loop μ-loop
+drain-requires c κs = (c .before .before .before .loop .inv .0, c .before .before .before .loop .inv .1, c .before .before .before .before .before .rows .ensures)
+
+enum-told : tie.Need-enum-told Inv-loop μ-loop
+enum-told c = search needs
+
+same-length : tie.Need-same-length Inv-loop μ-loop
+same-length c = c .before .before .before .before .drain .ensures .counted .all ∙ sym (c .before .before .before .before .before .before .before .before .before .before .before .before .pre .all)
+
+returns : tie.Need-returns Inv-loop μ-loop
+returns c = (c .before .before .before .before .drain .ensures .counted, drained-stops (c .before .before .before .before .drain .ensures) (not-wants (c .match .keys2)))
+
+slice-aggregate-read-some : tie.Need-slice-aggregate-read-some Inv-loop μ-loop
+slice-aggregate-read-some c = search needs
+
+read-some-requires : tie.Need-read-some-requires Inv-loop μ-loop
+read-some-requires c κs = search needs
+
+enum-told-2 : tie.Need-enum-told-2 Inv-loop μ-loop
+enum-told-2 c = search needs
+
+same-length-2 : tie.Need-same-length-2 Inv-loop μ-loop
+same-length-2 c = c .before .before .before .before .before .before .before .before .before .before .drain .ensures .counted .all ∙ sym (c .before .before .before .before .before .before .before .before .before .before .before .before .before .before .before .before .before .before .pre .all)
+
+returns-2 : tie.Need-returns-2 Inv-loop μ-loop
+returns-2 c = (counters-on (c .before .before .before .before .before .before .before .before .before .before .drain .ensures .counted) (c .before .before .before .read-some .ensures .messages), c .before .before .before .read-some .ensures .ends (not-ready (c .match2 .keys2)))
+
+loop-less : tie.Need-loop-less Inv-loop μ-loop
+loop-less c = omega (arith, drained-calls (c .before .before .before .before .before .before .before .before .before .before .before .drain .ensures), c .before .before .before .before .read-some .ensures .calls (c .enum-told2 .given .1))
+
+loop-again : tie.Need-loop-again Inv-loop μ-loop
+loop-again c = (counters-on (c .before .before .before .before .before .before .before .before .before .before .before .drain .ensures .counted) (c .before .before .before .before .read-some .ensures .messages), c .before .before .before .before .read-some .kept .1 .0 ∙ c .before .before .before .before .before .before .before .before .before .before .before .before .before .before .before .loop .inv .1)
+
+pub run-spec : {M : Type 1} → statement M
+run-spec =
+    tie.close
+    (tie.spec
+    Inv-loop
+    μ-loop
+    rows-requires
+    fresh-requires
+    loop-holds
+    slice-aggregate-drain
+    drain-requires
+    enum-told
+    same-length
+    returns
+    slice-aggregate-read-some
+    read-some-requires
+    enum-told-2
+    same-length-2
+    returns-2
+    loop-less
+    loop-again)
