@@ -1,10 +1,10 @@
 -- The same laws of the reader's answer itself, `windowOf`: what the layers above cite.
 -- Assumes nothing.
-use mathlib.Core.Path.{_≡_, refl, ap}
+use mathlib.Core.Path.{_≡_, refl, sym, ap, _∙_}
 use mathlib.Core.List.{List, _++_}
 use Prim.Native.Nat.{ℕ, _+_, _≤_, _<_}
 use native.Mathlib.Omega.{arith}
-use lib.ListN.{length, getD}
+use lib.ListN.{length, take, getD}
 use Rattle.format.specs.Layout.{Answer, accepted, incomplete, refuses}
 use Rattle.format.specs.Rows.{sizeOf, window}
 use Rattle.records.specs.declared.Message.{Message}
@@ -12,7 +12,7 @@ use Rattle.reader.specs.declared.Window.{Window}
 use Rattle.reader.specs.declared.Window.the-variants.{Message as Accepted, Incomplete, Refused}
 use Rattle.reader.specs.Window.{windowFrom, windowOf}
 use Rattle.laws.proofs.Rows.{Firm}
-use Rattle.laws.proofs.Window.{window-keeps, window-enough, window-covers, window-prefix}
+use Rattle.laws.proofs.Window.{window-keeps, window-enough, window-covers, window-first, window-prefix}
 
 -- an answer is incomplete exactly where its meaning is
 firm : (a : Answer) → (windowFrom a ≡ Incomplete → ⊥) → Firm a
@@ -52,6 +52,13 @@ unfolding windowOf
 covers s m n e =
     let a = accepted-from (window s) m n e in
     rw (a .2) at (window-covers s (a .0) n (a .1))
+
+-- these bytes are accepted by themselves
+pub first : (s : List ℕ) (m : Message) (n : ℕ) → windowOf s ≡ Accepted m n → windowOf (take n s) ≡ Accepted m n
+unfolding windowOf
+first s m n e =
+    let a = accepted-from (window s) m n e in
+    ap windowFrom (window-first s (a .0) n (a .1)) ∙ sym (ap windowFrom (a .1)) ∙ e
 
 -- each strict prefix of an accepted message is incomplete
 pub prefix : (s t : List ℕ) (m : Message) (n : ℕ) → windowOf (s ++ t) ≡ Accepted m n → length s < n → windowOf s ≡ Incomplete

@@ -1,6 +1,6 @@
 -- The laws of the window, for all tags at once, of the definition that parse_message is proved to meet: appended bytes change nothing of an
--- acceptance or a refusal; a window of 52 bytes is never incomplete; an accepted message consumed 2 + size of its tag, which lie within the window;
--- each strict prefix of them is incomplete.
+-- acceptance or a refusal; a window that has all bytes of its tag's message, as 52 always are, is never incomplete; an accepted message consumed
+-- 2 + size of its tag, which lie within the window and are accepted by themselves; each strict prefix of them is incomplete.
 -- Assumes nothing.
 use mathlib.Core.Path.{_≡_, refl, sym, ap, _∙_}
 use mathlib.Core.Bool.{Bool, true, false, cond, _&&_}
@@ -9,7 +9,8 @@ use mathlib.Core.Logic.{⊎-elim}
 use Prim.Native.Nat.{ℕ, _+_, _≤_, _<_}
 use native.Mathlib.Omega.{arith}
 use lib.Dec.{T, eqb, leb, leb→le, eqb→eq}
-use lib.ListN.{length, drop, getD}
+use lib.ListN.{length, take, drop, getD, take-append-drop}
+use lib.Seq.{length-take-le, getD-take}
 use Rattle.format.specs.Layout.{widths, Answer, accepted, incomplete, refuses}
 use Rattle.format.specs.Rows.{Row, rows, Found, found, none, find, sizeIn, sizeOf, under, header, message, bodyOf, window}
 use Rattle.format.proofs.Tests.{both, le-or-lt}
@@ -64,16 +65,28 @@ pre-accepted acc (accepted ws m) vs n e = let q : m ≡ n = cc in (ws, ap (accep
 pre-accepted acc incomplete vs n e = let z : _≡_ {A = ℕ} 0 1 = cc in absurd (omega arith)
 pre-accepted acc (refuses m p) vs n e = let z : _≡_ {A = ℕ} 0 1 = cc in absurd (omega arith)
 
+-- the bytes of a tag's message
+under-whole : (f : Found) (s vs : List ℕ) → Sized f → 2 + sizeIn f ≤ length s → Firm (under f s 13 vs)
+under-whole (found r) s vs z l = enough (r .body) s 13 vs accepted (omega arith) (λ ws n e. let y : _≡_ {A = ℕ} 0 1 = cc in omega arith)
+under-whole none s vs z l = λ e. let y : _≡_ {A = ℕ} 0 1 = cc in omega arith
+
+pub window-whole : (s : List ℕ) → 13 ≤ length s → 2 + sizeOf (getD s 2 0) ≤ length s → Firm (window s)
+unfolding bodyOf sizeOf
+window-whole s h l e =
+    let t : ℕ = getD s 2 0 in
+    firm-pre _ (bodyOf t s) (under-whole (find rows t) s (t ∷ []) (rows-sized t) l) (sym (window-there s h) ∙ e)
+
 -- 52 bytes
-under-enough : (f : Found) (s vs : List ℕ) → Sized f → 52 ≤ length s → Firm (under f s 13 vs)
-under-enough (found r) s vs z l = enough (r .body) s 13 vs accepted (omega arith) (λ ws n e. let y : _≡_ {A = ℕ} 0 1 = cc in omega arith)
-under-enough none s vs z l = λ e. let y : _≡_ {A = ℕ} 0 1 = cc in omega arith
+size-50 : (f : Found) → Sized f → sizeIn f ≤ 50
+size-50 (found r) z = z .1
+size-50 none z = omega arith
+
+pub sizes-50 : (t : ℕ) → sizeOf t ≤ 50
+unfolding sizeOf
+sizes-50 t = size-50 (find rows t) (rows-sized t)
 
 pub window-enough : (s : List ℕ) → 52 ≤ length s → Firm (window s)
-unfolding bodyOf
-window-enough s l e =
-    let t : ℕ = getD s 2 0 in
-    firm-pre _ (bodyOf t s) (under-enough (find rows t) s (t ∷ []) (rows-sized t) l) (sym (window-there s (omega arith)) ∙ e)
+window-enough s l = window-whole s (omega arith) (omega (arith, sizes-50 (getD s 2 0)))
 
 -- what an accepted message consumed
 under-covers : (f : Found) (s us vs : List ℕ) (n : ℕ) → Sized f → 13 ≤ length s → under f s 13 us ≡ accepted vs n → (n ≡ 2 + sizeIn f) × (n ≤ length s) × (13 ≤ n)
@@ -96,6 +109,18 @@ window-covers s vs n e =
     rw q at (under-covers (find rows t) s (t ∷ []) (a .0) n (rows-sized t) l (a .1)))
     (λ l. let z : _≡_ {A = ℕ} 0 1 = cc (window-cut s l) in absurd (omega arith))
     (le-or-lt 13 (length s))
+
+-- these bytes are accepted by themselves
+window-tag : (s vs : List ℕ) (n : ℕ) → 13 ≤ length s → window s ≡ accepted vs n → getD s 2 0 ≡ getD vs 0 0
+window-tag s vs n l e = ap (λ ws. getD ws 0 0) (pre-accepted _ (bodyOf (getD s 2 0) s) vs n (sym (window-there s l) ∙ e) .2)
+
+pub window-first : (s vs : List ℕ) (n : ℕ) → window s ≡ accepted vs n → window (take n s) ≡ accepted vs n
+window-first s vs n e =
+    let c = window-covers s vs n e in
+    let l : length (take n s) ≡ n = length-take-le n s (c .1) in
+    let t : getD (take n s) 2 0 ≡ getD vs 0 0 = getD-take n s 2 0 (omega (arith, c .2)) ∙ window-tag s vs n (omega (arith, c .1, c .2)) e in
+    let k = window-keeps (take n s) (drop n s) (window-whole (take n s) (omega (arith, l, c .2)) (rw t (omega (arith, l, c .0)))) in
+    sym k ∙ ap window (take-append-drop n s) ∙ e
 
 -- each strict prefix of an accepted message is incomplete
 pub window-prefix : (s t vs : List ℕ) (n : ℕ) → window (s ++ t) ≡ accepted vs n → length s < n → window s ≡ incomplete

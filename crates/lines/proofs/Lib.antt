@@ -1,4 +1,5 @@
 pub mod Pairs
+pub mod Plainly
 pub mod Told
 pub mod Moves
 pub mod Turns

@@ -24,10 +24,11 @@ use Rattle.text.proofs.Laws.{decimal-20, wrote-none, wrote-append, wrote-as, wr
 use Rattle.lines.proofs.Halt.{enum}
 use Rattle.lines.specs.declared.Halt.{Halt}
 use Rattle.lines.specs.declared.Halted.{Halted}
+use Rattle.lines.specs.declared.Look.the-variants.{Tag, Bad as Ill}
 use Rattle.lines.specs.declared.Halt.the-variants.{Cut, Full, Bad as Refused}
 use Rattle.lines.specs.Lines.{acceptedOf, refusedOf, lineOf, linesOf}
 use Rattle.lines.specs.Blocks.{longest}
-use Rattle.lines.specs.Whole.{isFull, haltedOf, Cutting, entryAt, Ends, Frames, none, more, Halting, cut, full, refused, Halts, Goes}
+use Rattle.lines.specs.Whole.{isFull, lookOf, haltedOf, Cutting, entryAt, Ends, Frames, none, more, Halting, cut, full, refused, Halts, Goes}
 
 -- ---- the lines, the accepted and the number of frames that are told one behind the other
 
@@ -87,9 +88,10 @@ module _ (win : List ℕ → Window) (s : List ℕ) (have from offset : ℕ) (ou
       roomy : to + length (linesOf (T .entries)) + longest ≤ length out₀
       roomy = omega (arith, T .text .next, T .text .inside, wrote-long (T .text))
 
-      pub telling-refused : (v : Verdict) → v ≡ judgeOf win (drop i s) size → countOf v ≡ 0 → Halts win s have from offset out₀ to out' (haltedOf i a count v size)
-      telling-refused (Accepted m) e n = absurd (omega (arith, n))
-      telling-refused (Bad number place) e n =
+      pub telling-refused : (v : Verdict) → v ≡ judgeOf win (drop i s) size → (number place : ℕ) → lookOf v ≡ Ill number place
+          → Halts win s have from offset out₀ to out' (haltedOf i a count (lookOf v) size)
+      telling-refused (Accepted m) e _ _ n = let x : _≡_ {A = ℕ} 0 1 = cc in absurd (omega arith)
+      telling-refused (Bad number place) e _ _ n =
           let j : judgeOf win (drop i s) (frameSize (drop i s)) ≡ Bad number place = rw z at (sym e) in
           halts out' a (Refused number place size) (rw z (refused number place E roomy j (wrote-append (T .text) p)))
 

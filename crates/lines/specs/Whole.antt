@@ -15,6 +15,8 @@ use Rattle.text.specs.Decimal.{twoOf, decimalOf, Wrote}
 use Rattle.lines.specs.declared.Halt.{Halt}
 use Rattle.lines.specs.declared.Halt.the-variants.{Cut, Full, Bad as Refused}
 use Rattle.lines.specs.declared.Halted.{Halted}
+use Rattle.lines.specs.declared.Look.{Look}
+use Rattle.lines.specs.declared.Look.the-variants.{Tag, Bad as Ill}
 use Rattle.lines.specs.declared.Gone.{Gone}
 use Rattle.lines.specs.Lines.{linesOf}
 use Rattle.lines.specs.Blocks.{longest}
@@ -32,9 +34,14 @@ isFull Full = true
 isFull Cut = false
 isFull (Refused number place size) = false
 
-abbrev pub haltedOf : ℕ → ℕ → ℕ → Verdict → ℕ → Halted
-haltedOf at to count (Bad number place) size = record { at = at; to = to; count = count; why = Refused number place size }
-haltedOf at to count (Accepted m) size = record { at = at; to = to; count = count; why = Cut }
+-- what a line tells of a frame's answer
+abbrev pub lookOf : Verdict → Look
+lookOf (Accepted m) = Tag (m .tag)
+lookOf (Bad number place) = Ill number place
+
+abbrev pub haltedOf : ℕ → ℕ → ℕ → Look → ℕ → Halted
+haltedOf at to count (Ill number place) size = record { at = at; to = to; count = count; why = Refused number place size }
+haltedOf at to count (Tag tag) size = record { at = at; to = to; count = count; why = Cut }
 
 -- from place i on, no frame ends within the first `have` bytes of s
 abbrev pub Cutting : List ℕ → ℕ → ℕ → Type 0

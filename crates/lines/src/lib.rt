@@ -5,11 +5,12 @@ ghost use mathlib.Core.List.{[], _∷_, _++_};
 ghost use mathlib.Core.Path.{_≡_};
 ghost use lib.ListN.{length};
 ghost use Rattle.reader.specs.Window.{windowOf};
-ghost use Rattle.walk.specs.Walk.{readyOf};
+ghost use Rattle.walk.specs.Walk.{readyOf, judgeOf};
+ghost use Rattle.plain.specs.Plain.{Table};
 ghost use Rattle.text.specs.Decimal.{twoOf, fourOf, decimalOf, Wrote};
 ghost use Rattle.lines.specs.Lines.{okText, acceptedOf, refusedOf};
 ghost use Rattle.lines.specs.Blocks.{startOf, cutOf, stopsOf, Called};
-ghost use Rattle.lines.specs.Whole.{pairs, isFull, haltedOf, Asked, Halts, Goes};
+ghost use Rattle.lines.specs.Whole.{pairs, isFull, lookOf, haltedOf, Asked, Halts, Goes};
 use walk::Verdict;
 use walk::Walk;
 
@@ -336,17 +337,43 @@ struct Halted {
     why: Halt,
 }
 
-fn stopped_at(at: usize, to: usize, count: u64, what: Verdict, size: usize) -> Halted
+// What a line tells of a frame: accepted, with its tag; or refused, with number and place.
+enum Look {
+    Tag(u8),
+    Bad(u8, usize),
+}
+
+fn look_of(what: Verdict) -> Look
+    ensures { λ r. ⌜ r ≡ lookOf what ⌝ }
+{
+    match what {
+        Verdict::Accepted(message) => Look::Tag(message.tag),
+        Verdict::Bad(number, place) => Look::Bad(number, place),
+    }
+}
+
+// The frame rule's answer, from a frame's size and its first bytes. A plain message is accepted without a jump by its tag.
+fn looked(s: &[u8], size: usize, rows: &[u64; 256]) -> Look
+    requires { ⌜ (2 ≤ size) × Table (now rows) ⌝ }
+    ensures { λ r. ⌜ r ≡ lookOf (judgeOf windowOf (now (s .entry)) size) ⌝ }
+{
+    if plain::plain(s, rows) == size {
+        return Look::Tag(s[2]);
+    }
+    look_of(walk::judge(s, size))
+}
+
+fn stopped_at(at: usize, to: usize, count: u64, what: Look, size: usize) -> Halted
     ensures { λ r. ⌜ r ≡ haltedOf at to count what size ⌝ }
 {
     match what {
-        Verdict::Bad(number, place) => Halted {
+        Look::Bad(number, place) => Halted {
             at,
             to,
             count,
             why: Halt::Bad(number, place, size),
         },
-        Verdict::Accepted(_message) => Halted {
+        Look::Tag(_tag) => Halted {
             at,
             to,
             count,
@@ -362,11 +389,12 @@ fn told_accepted(
     have: usize,
     from: usize,
     offset: u64,
+    rows: &[u64; 256],
     table: &[u8],
     out: &mut [u8],
     to: usize,
 ) -> Halted
-    requires { ⌜ Asked (now s) have from offset (now table) (length (now out)) to ⌝ }
+    requires { ⌜ Asked (now s) have from offset (now table) (length (now out)) to × Table (now rows) ⌝ }
     ensures { λ r. ⌜ Halts windowOf (now (s .entry)) have from offset (now (out .entry)) to (now (out .exit)) r ⌝ }
 {
     let mut i = from;
@@ -407,11 +435,11 @@ fn told_accepted(
             };
         }
         let a = offset_text(offset + (i - from) as u64, table, out, o);
-        let what = walk::judge(&s[i..], size);
-        let Verdict::Accepted(message) = what else {
+        let what = looked(&s[i..], size, rows);
+        let Look::Tag(tag) = what else {
             return stopped_at(i, a, count, what, size);
         };
-        o = accepted(message.tag, size, table, out, a);
+        o = accepted(tag, size, table, out, a);
         i += size;
         count += 1;
     }
@@ -443,6 +471,7 @@ fn told_frames(
     s: &[u8],
     have: usize,
     from: usize,
+    rows: &[u64; 256],
     table: &[u8],
     out: &mut [u8],
     to: usize,
@@ -450,7 +479,7 @@ fn told_frames(
     frames: u64,
     accepted: u64,
 ) -> Gone
-    requires { ⌜ Asked (now s) have from offset (now table) (length (now out)) to × (2 * frames ≤ offset) × (accepted ≤ frames) ⌝ }
+    requires { ⌜ Asked (now s) have from offset (now table) (length (now out)) to × Table (now rows) × (2 * frames ≤ offset) × (accepted ≤ frames) ⌝ }
     ensures { λ r. ⌜ Goes windowOf (now (s .entry)) have from offset frames accepted (now (out .entry)) to (now (out .exit)) r ⌝ }
 {
     let mut i = from;
@@ -459,7 +488,7 @@ fn told_frames(
     let mut fr = frames;
     let mut acc = accepted;
     loop {
-        let h = told_accepted(s, have, i, off, table, out, o);
+        let h = told_accepted(s, have, i, off, rows, table, out, o);
         let j = h.at;
         let k = h.to;
         let past = off + (j - i) as u64;
@@ -529,6 +558,7 @@ fn start(offset: u64, frames: u64, accepted: u64) -> Walk
 fn from_start(
     block: &[u8],
     from: usize,
+    rows: &[u64; 256],
     table: &[u8],
     out: &mut [u8],
     at: usize,
@@ -537,13 +567,14 @@ fn from_start(
     accepted: u64,
 ) -> Blocked
     requires { ⌜ (from ≤ length (now block)) × (at ≤ length (now out)) × (offset + (length (now block) - from) < 2 ^ 64) × (2 * frames ≤ offset) × (accepted ≤ frames)
-        × (now table ≡ pairs) ⌝ }
+        × (now table ≡ pairs) × Table (now rows) ⌝ }
     ensures { λ r. ⌜ Called windowOf (startOf offset frames accepted) (now (block .entry)) from (now (out .entry)) at (now (out .exit)) r ⌝ }
 {
     let g = told_frames(
         block,
         block.len(),
         from,
+        rows,
         table,
         out,
         at,
@@ -575,11 +606,12 @@ fn from_inside(
     w: Walk,
     block: &[u8],
     from: usize,
+    rows: &[u64; 256],
     table: &[u8],
     out: &mut [u8],
     at: usize,
 ) -> Blocked
-    requires { ⌜ (from < length (now block)) × (at + 72 ≤ length (now out)) × (readyOf w (length (now block) - from) ≡ true) × (now table ≡ pairs) ⌝ }
+    requires { ⌜ (from < length (now block)) × (at + 72 ≤ length (now out)) × (readyOf w (length (now block) - from) ≡ true) × (now table ≡ pairs) × Table (now rows) ⌝ }
     ensures { λ r. ⌜ Called windowOf w (now (block .entry)) from (now (out .entry)) at (now (out .exit)) r ⌝ }
 {
     let seen = w.seen;
@@ -605,11 +637,23 @@ fn from_inside(
             why: Why::Used,
         };
     }
-    let g = told_frames(&held, size, 0, table, out, at, offset, frames, accepted);
+    let g = told_frames(
+        &held,
+        size,
+        0,
+        rows,
+        table,
+        out,
+        at,
+        offset,
+        frames,
+        accepted,
+    );
     let used = size - seen;
     from_start(
         block,
         from + used,
+        rows,
         table,
         out,
         g.to,
@@ -657,10 +701,21 @@ pub fn walk_block(w: Walk, block: &[u8], from: usize, out: &mut [u8], at: usize)
         };
     }
     let table = PAIRS;
+    let rows = plain::rows();
     if w.seen == 0 {
-        return from_start(block, from, &table, out, at, w.offset, w.frames, w.accepted);
+        return from_start(
+            block,
+            from,
+            &rows,
+            &table,
+            out,
+            at,
+            w.offset,
+            w.frames,
+            w.accepted,
+        );
     }
-    from_inside(w, block, from, &table, out, at)
+    from_inside(w, block, from, &rows, &table, out, at)
 }
 
 pub fn stops(why: Why) -> bool

@@ -43,8 +43,8 @@ add-total c =
     let a = c .before .before .before .before .before .before .before .args in
     omega (arith, ready-all (a .w) (length (a .block .now) - a .from) (c .before .before .before .before .before .before .before .pre .2) .room)
 
-add-t32 : tie.Need-add-t32
-add-t32 c = search needs
+add-t33 : tie.Need-add-t33
+add-t33 c = search needs
 
 returns : tie.Need-returns
 returns c =
@@ -61,7 +61,7 @@ told-frames-requires : tie.Need-told-frames-requires
 told-frames-requires c κs =
     let f = inside-fits windowOf (c .before .before .before .before .before .before .before .before .before .before .args .w) (c .before .before .before .before .before .before .before .before .before .before .args .block .now) (c .before .before .before .before .before .before .before .before .before .before .args .from) (c .before .before .before .before .before .before .before .before .before .before .args .out .now) (c .before .before .before .before .before .before .before .before .before .before .args .at) (c .before .before .before .before .before .before .before .before .before .before .pre .0) (c .before .before .before .before .before .before .before .before .before .before .pre .1) (c .before .before .before .before .before .before .before .before .before .before .pre .2) (c .before .before .before .before .put-in .result) (c .before .before .before .size-by .result) (rw (part-all (c .before .before .before .before .before .before .before .before .before .before .args .block .now) (c .before .before .before .before .before .before .before .before .before .before .args .from)) at (c .before .before .before .before .put-in .ensures)) (c .before .before .before .size-by .ensures) (countOf (judgeOf windowOf (c .before .before .before .before .put-in .result) (c .before .before .before .size-by .result))) refl (c .before .before .if1 .left) in
     let r = ready-all (c .before .before .before .before .before .before .before .before .before .before .args .w) (length (c .before .before .before .before .before .before .before .before .before .before .args .block .now) - c .before .before .before .before .before .before .before .before .before .before .args .from) (c .before .before .before .before .before .before .before .before .before .before .pre .2) in
-    (record { begun = omega arith; fits = omega (arith, f .room); digits = c .before .before .before .before .before .before .before .before .before .before .pre .3; inside = omega (arith, c .before .before .before .before .before .before .before .before .before .before .pre .1) }, r .two, r .counted)
+    (record { begun = omega arith; fits = omega (arith, f .room); digits = c .before .before .before .before .before .before .before .before .before .before .pre .3; inside = omega (arith, c .before .before .before .before .before .before .before .before .before .before .pre .1) }, c .before .before .before .before .before .before .before .before .before .before .pre .4, r .two, r .counted)
 
 sub-used : tie.Need-sub-used
 sub-used c =
@@ -98,6 +98,7 @@ from-start-requires c κs =
       omega (arith, f .two, o .told, o .past),
       omega (arith, f .counted, o .good, o .told),
       pre .3,
+      pre .4,
     )
 
 same-length : tie.Need-same-length
@@ -130,7 +131,7 @@ from-inside-spec =
     size-by-requires
     sub-left
     add-total
-    add-t32
+    add-t33
     returns
     slice-aggregate-told-frames
     told-frames-requires

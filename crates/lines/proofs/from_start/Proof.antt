@@ -11,7 +11,7 @@ use Rattle.lines.proofs.from_start.Statement.{statement}
 use Rattle.lines.proofs.from_start.Tie as tie
 
 told-frames-requires : tie.Need-told-frames-requires
-told-frames-requires c κs = (record { begun = c .before .before .before .before .pre .0; fits = c .before .before .before .before .pre .2; digits = c .before .before .before .before .pre .5; inside = c .before .before .before .before .pre .1 }, c .before .before .before .before .pre .3, c .before .before .before .before .pre .4)
+told-frames-requires c κs = (record { begun = c .before .before .before .before .pre .0; fits = c .before .before .before .before .pre .2; digits = c .before .before .before .before .pre .5; inside = c .before .before .before .before .pre .1 }, c .before .before .before .before .pre .6, c .before .before .before .before .pre .3, c .before .before .before .before .pre .4)
 
 start-requires : tie.Need-start-requires
 start-requires c κs = search needs
@@ -52,8 +52,8 @@ part-cut-end c = search needs
 cut-requires : tie.Need-cut-requires
 cut-requires c κs = search needs
 
-add-t23 : tie.Need-add-t23
-add-t23 c = search needs
+add-t24 : tie.Need-add-t24
+add-t24 c = search needs
 
 same-length-2 : tie.Need-same-length-2
 same-length-2 c = search needs
@@ -82,6 +82,6 @@ from-start-spec =
     part-cut-start
     part-cut-end
     cut-requires
-    add-t23
+    add-t24
     same-length-2
     returns-2)

@@ -1,27 +1,28 @@
 -- `lines::told_accepted` meets its contract.
 -- Assumes nothing.
 use Prim.Native.Nat.{_+_, _-_}
-use mathlib.Core.Path.{sym, ap, _∙_}
+use mathlib.Core.Path.{refl, sym, _∙_}
 use mathlib.Core.Logic.{inl, inr}
 use Rattle.text.proofs.Laws.{decimal-20, wrote-long}
-use Rattle.walk.specs.Walk.{countOf}
 use Rattle.lines.proofs.Turns.{part-all}
 use Rattle.lines.proofs.Along.{size-here}
+use Rattle.lines.proofs.Plainly.{tag-told}
 use native.Mathlib.Omega.{arith}
 use Rattle.reader.specs.Window.{windowOf}
+use Rattle.walk.specs.Walk.{judgeOf}
 use Rattle.lines.proofs.Told.{Telling, telling-start, telling-cut, telling-full, telling-refused, telling-more, accepted-size}
 use borrow.Author.Needs.{needs}
 use Rattle.lines.proofs.told_accepted.Statement.{statement}
 use Rattle.lines.proofs.told_accepted.Tie as tie
 
 abbrev Inv-loop : tie.InvT-loop
-Inv-loop s have from offset table out₀ to i₀ o₀ count₀ out i o count = Telling windowOf s have from offset out₀ to out i o count
+Inv-loop s have from offset rows table out₀ to i₀ o₀ count₀ out i o count = Telling windowOf s have from offset out₀ to out i o count
 
 abbrev μ-loop : tie.MeasureT-loop
-μ-loop s have from offset table out₀ to i₀ o₀ count₀ out i o count = have - i
+μ-loop s have from offset rows table out₀ to i₀ o₀ count₀ out i o count = have - i
 
 loop-holds : tie.Need-loop-holds Inv-loop μ-loop
-loop-holds c = telling-start windowOf _ _ _ _ _ _ (c .before .before .before .pre .begun) (c .before .before .before .pre .inside)
+loop-holds c = telling-start windowOf _ _ _ _ _ _ (c .before .before .before .pre .0 .begun) (c .before .before .before .pre .0 .inside)
 
 same-length : tie.Need-same-length Inv-loop μ-loop
 same-length c = wrote-long (c .before .loop .inv .text)
@@ -79,28 +80,31 @@ add-offset-text : tie.Need-add-offset-text Inv-loop μ-loop
 add-offset-text c =
     omega (
       arith,
-      c .before .before .before .before .before .before .before .before .before .before .before .pre .fits,
+      c .before .before .before .before .before .before .before .before .before .before .before .pre .0 .fits,
       c .before .before .before .before .before .before .if1 .left,
       c .before .before .before .before .before .before .before .loop .inv .ahead,
     )
 
 offset-text-requires : tie.Need-offset-text-requires Inv-loop μ-loop
 offset-text-requires c κs = (
-  c .before .before .before .before .before .before .before .before .before .before .before .before .pre .digits,
+  c .before .before .before .before .before .before .before .before .before .before .before .before .pre .0 .digits,
   omega (arith, c .before .before .before .before .before .before .if2 .left),
 )
 
-sub-judge : tie.Need-sub-judge Inv-loop μ-loop
-sub-judge c = omega (arith, c .before .before .before .before .before .before .before .before .if3 .left)
+sub-looked : tie.Need-sub-looked Inv-loop μ-loop
+sub-looked c = omega (arith, c .before .before .before .before .before .before .before .before .if3 .left)
 
-part-judge-start : tie.Need-part-judge-start Inv-loop μ-loop
-part-judge-start c = omega (arith, c .before .before .before .before .before .before .before .before .if3 .left)
+part-looked-start : tie.Need-part-looked-start Inv-loop μ-loop
+part-looked-start c = omega (arith, c .before .before .before .before .before .before .before .before .if3 .left)
 
-part-judge-end : tie.Need-part-judge-end Inv-loop μ-loop
-part-judge-end c = omega (arith, c .before .before .before .before .before .before .before .before .if3 .left)
+part-looked-end : tie.Need-part-looked-end Inv-loop μ-loop
+part-looked-end c = omega (arith, c .before .before .before .before .before .before .before .before .if3 .left)
 
-judge-requires : tie.Need-judge-requires Inv-loop μ-loop
-judge-requires c κs = search needs
+looked-requires : tie.Need-looked-requires Inv-loop μ-loop
+looked-requires c κs = (
+  omega (arith, c .before .before .before .before .before .before .size-by .ensures),
+  c .before .before .before .before .before .before .before .before .before .before .before .before .before .before .before .before .pre .1,
+)
 
 enum-known-what : tie.Need-enum-known-what Inv-loop μ-loop
 enum-known-what c = search needs
@@ -119,8 +123,8 @@ same-length-5 c =
 returns-5 : tie.Need-returns-5 Inv-loop μ-loop
 returns-5 c =
     let z = (size-here (c .before .before .before .before .before .before .before .before .before .before .before .before .before .before .before .before .before .before .before .before .args .s .now) (c .before .before .before .before .before .before .before .before .before .before .before .before .before .before .before .before .loop .i) (c .before .before .before .before .before .before .before .before .before .before .size-by .result) (omega (arith, c .before .before .before .before .before .before .before .before .before .before .before .before .before .if3 .left)) (c .before .before .before .before .before .before .before .before .before .before .size-by .ensures)) in
-    let e = rw (part-all (c .before .before .before .before .before .before .before .before .before .before .before .before .before .before .before .before .before .before .before .before .args .s .now) (c .before .before .before .before .before .before .before .before .before .before .before .before .before .before .before .before .loop .i)) at (c .before .before .before .judge .ensures) in
-    rw (c .stopped-at .ensures) (telling-refused windowOf _ _ _ _ _ _ _ _ _ _ (c .before .before .before .before .before .before .before .before .before .before .before .before .before .before .before .before .loop .inv) (c .before .before .before .before .before .before .before .before .before .before .size-by .result) (record { before = c .before .before .before .before .before .before .before .before .before .before .before .before .before .before .before .if1 .left; sized = omega (arith, c .before .before .before .before .before .before .before .before .before .before .before .before .before .if3 .left); whole = omega (arith, z, c .before .before .before .before .before .before .before .before .before .if4 .left) }) z (c .before .before .before .before .before .before .before .before .before .before .before .before .before .before .if2 .left) _ _ (c .before .before .before .before .before .before .before .offset-text .ensures) (c .before .before .before .judge .result) e (ap countOf (c .before .enum-told .given .1)))
+    let e = rw (part-all (c .before .before .before .before .before .before .before .before .before .before .before .before .before .before .before .before .before .before .before .before .args .s .now) (c .before .before .before .before .before .before .before .before .before .before .before .before .before .before .before .before .loop .i)) at (c .before .before .before .looked .ensures) in
+    rw (c .stopped-at .ensures, e) (telling-refused windowOf _ _ _ _ _ _ _ _ _ _ (c .before .before .before .before .before .before .before .before .before .before .before .before .before .before .before .before .loop .inv) (c .before .before .before .before .before .before .before .before .before .before .size-by .result) (record { before = c .before .before .before .before .before .before .before .before .before .before .before .before .before .before .before .if1 .left; sized = omega (arith, c .before .before .before .before .before .before .before .before .before .before .before .before .before .if3 .left); whole = omega (arith, z, c .before .before .before .before .before .before .before .before .before .if4 .left) }) z (c .before .before .before .before .before .before .before .before .before .before .before .before .before .before .if2 .left) _ _ (c .before .before .before .before .before .before .before .offset-text .ensures) (judgeOf windowOf _ _) refl _ _ (sym e ∙ c .before .enum-told .given .1))
 
 accepted-requires : tie.Need-accepted-requires Inv-loop μ-loop
 accepted-requires c κs =
@@ -131,18 +135,19 @@ accepted-requires c κs =
     let text = c .before .before .before .before .before .before .before .before .offset-text in
     let z =
     (size-here (a .s .now) (l .i) (sized .result) (omega (arith, c .before .before .before .before .before .before .before .before .before .before .before .before .before .before .if3 .left)) (sized .ensures)) in
-    let e = rw (part-all (a .s .now) (l .i)) at (c .before .before .before .before .judge .ensures) in
-    let d = accepted-size _ _ _ (sym e ∙ c .before .before .what .given .1) in (
+    let e = rw (part-all (a .s .now) (l .i)) at (c .before .before .before .before .looked .ensures) in
+    let t = tag-told (judgeOf windowOf _ _) _ (sym e ∙ c .before .before .what .given .1) in
+    let d = accepted-size _ _ (t .0) (t .1) in (
       omega (arith, d .0),
       omega (arith, d .1),
-      pre .digits,
+      pre .0 .digits,
       omega (
         arith,
         c .before .before .before .before .before .before .before .before .before .before .before .before .before .before .before .if2 .left,
         text .ensures .next,
         wrote-long (text .ensures),
         decimal-20 (a .offset + (l .i - a .from))
-            (omega (arith, pre .fits, c .before .before .before .before .before .before .before .before .before .before .before .before .before .before .before .before .if1 .left, l .inv .ahead)),
+            (omega (arith, pre .0 .fits, c .before .before .before .before .before .before .before .before .before .before .before .before .before .before .before .before .if1 .left, l .inv .ahead)),
       ),
     )
 
@@ -171,8 +176,9 @@ loop-less c =
 loop-again : tie.Need-loop-again Inv-loop μ-loop
 loop-again c =
     let z = (size-here (c .before .before .before .before .before .before .before .before .before .before .before .before .before .before .before .before .before .before .before .before .before .before .before .before .args .s .now) (c .before .before .before .before .before .before .before .before .before .before .before .before .before .before .before .before .before .before .before .before .loop .i) (c .before .before .before .before .before .before .before .before .before .before .before .before .before .before .size-by .result) (omega (arith, c .before .before .before .before .before .before .before .before .before .before .before .before .before .before .before .before .before .if3 .left)) (c .before .before .before .before .before .before .before .before .before .before .before .before .before .before .size-by .ensures)) in
-    let e = rw (part-all (c .before .before .before .before .before .before .before .before .before .before .before .before .before .before .before .before .before .before .before .before .before .before .before .before .args .s .now) (c .before .before .before .before .before .before .before .before .before .before .before .before .before .before .before .before .before .before .before .before .loop .i)) at (c .before .before .before .before .before .before .before .judge .ensures) in
-    telling-more windowOf _ _ _ _ _ _ _ _ _ _ (c .before .before .before .before .before .before .before .before .before .before .before .before .before .before .before .before .before .before .before .before .loop .inv) (c .before .before .before .before .before .before .before .before .before .before .before .before .before .before .size-by .result) (record { before = c .before .before .before .before .before .before .before .before .before .before .before .before .before .before .before .before .before .before .before .if1 .left; sized = omega (arith, c .before .before .before .before .before .before .before .before .before .before .before .before .before .before .before .before .before .if3 .left); whole = omega (arith, z, c .before .before .before .before .before .before .before .before .before .before .before .before .before .if4 .left) }) z (c .before .before .before .before .before .before .before .before .before .before .before .before .before .before .before .before .before .before .if2 .left) _ _ (c .before .before .before .before .before .before .before .before .before .before .before .offset-text .ensures) _ (sym e ∙ c .before .before .before .before .before .what .given .1) _ _ (c .before .before .accepted .ensures)
+    let e = rw (part-all (c .before .before .before .before .before .before .before .before .before .before .before .before .before .before .before .before .before .before .before .before .before .before .before .before .args .s .now) (c .before .before .before .before .before .before .before .before .before .before .before .before .before .before .before .before .before .before .before .before .loop .i)) at (c .before .before .before .before .before .before .before .looked .ensures) in
+    let t = tag-told (judgeOf windowOf _ _) _ (sym e ∙ c .before .before .before .before .before .what .given .1) in
+    telling-more windowOf _ _ _ _ _ _ _ _ _ _ (c .before .before .before .before .before .before .before .before .before .before .before .before .before .before .before .before .before .before .before .before .loop .inv) (c .before .before .before .before .before .before .before .before .before .before .before .before .before .before .size-by .result) (record { before = c .before .before .before .before .before .before .before .before .before .before .before .before .before .before .before .before .before .before .before .if1 .left; sized = omega (arith, c .before .before .before .before .before .before .before .before .before .before .before .before .before .before .before .before .before .if3 .left); whole = omega (arith, z, c .before .before .before .before .before .before .before .before .before .before .before .before .before .if4 .left) }) z (c .before .before .before .before .before .before .before .before .before .before .before .before .before .before .before .before .before .before .if2 .left) _ _ (c .before .before .before .before .before .before .before .before .before .before .before .offset-text .ensures) (t .0) (t .1) _ _ (rw (t .2) (c .before .before .accepted .ensures))
 
 pub told-accepted-spec : {M : Type 1} → statement M
 told-accepted-spec =
@@ -199,10 +205,10 @@ told-accepted-spec =
     sub-offset-text
     add-offset-text
     offset-text-requires
-    sub-judge
-    part-judge-start
-    part-judge-end
-    judge-requires
+    sub-looked
+    part-looked-start
+    part-looked-end
+    looked-requires
     enum-known-what
     enum-told
     stopped-at-requires

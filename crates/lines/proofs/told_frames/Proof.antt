@@ -9,18 +9,13 @@ use Rattle.lines.proofs.Told.{Passing, passing-start, far, passing-ends
 use borrow.Author.Needs.{needs}
 use Rattle.lines.proofs.told_frames.Statement.{statement}
 use Rattle.lines.proofs.told_frames.Tie as tie
-use Rattle.lines.proofs.told_frames.Reads as reads
-use Rattle.lines.proofs.told_frames.Lts as lts
-use Rattle.lines.proofs.is_full.Reads as is-full-reads
-use Rattle.lines.proofs.refused.Reads as refused-reads
-use Rattle.lines.proofs.told_accepted.Reads as told-accepted-reads
 
 abbrev Inv-loop : tie.InvT-loop
-Inv-loop s have from table out₀ to offset frames accepted i₀ o₀ off₀ fr₀ acc₀ out i o off fr acc =
+Inv-loop s have from rows table out₀ to offset frames accepted i₀ o₀ off₀ fr₀ acc₀ out i o off fr acc =
     Passing windowOf s have from offset frames accepted out₀ to out i o off fr acc
 
 abbrev μ-loop : tie.MeasureT-loop
-μ-loop s have from table out₀ to offset frames accepted i₀ o₀ off₀ fr₀ acc₀ out i o off fr acc = have - i
+μ-loop s have from rows table out₀ to offset frames accepted i₀ o₀ off₀ fr₀ acc₀ out i o off fr acc = have - i
 
 -- the accepted frames lie behind one another, two bytes or more each, within the bytes
 moved : (c : tie.After-told-accepted Inv-loop μ-loop)
@@ -41,16 +36,18 @@ past-fits c =
     )
 
 loop-holds : tie.Need-loop-holds Inv-loop μ-loop
-loop-holds c = passing-start windowOf _ _ _ _ _ _ _ _ (c .before .before .before .pre .0 .begun) (c .before .before .before .pre .0 .inside) (c .before .before .before .pre .1) (c .before .before .before .pre .2)
+loop-holds c = passing-start windowOf _ _ _ _ _ _ _ _ (c .before .before .before .pre .0 .begun) (c .before .before .before .pre .0 .inside) (c .before .before .before .pre .2) (c .before .before .before .pre .3)
 
 told-accepted-requires : tie.Need-told-accepted-requires Inv-loop μ-loop
-told-accepted-requires c κs =
-    record {
-      begun = c .before .loop .inv .within;
-      fits = omega (arith, c .before .loop .inv .past, c .before .loop .inv .ahead, c .before .loop .inv .within, c .before .before .before .before .before .pre .0 .fits);
-      digits = c .before .before .before .before .before .pre .0 .digits;
-      inside = omega (arith, c .before .loop .inv .text .inside, wrote-long (c .before .loop .inv .text));
-    }
+told-accepted-requires c κs = (
+  record {
+    begun = c .before .loop .inv .within;
+    fits = omega (arith, c .before .loop .inv .past, c .before .loop .inv .ahead, c .before .loop .inv .within, c .before .before .before .before .before .pre .0 .fits);
+    digits = c .before .before .before .before .before .pre .0 .digits;
+    inside = omega (arith, c .before .loop .inv .text .inside, wrote-long (c .before .loop .inv .text));
+  },
+  c .before .before .before .before .before .pre .1,
+)
 
 sub-past : tie.Need-sub-past Inv-loop μ-loop
 sub-past c = omega (arith, moved (c .before .before) .0)

@@ -51,21 +51,26 @@ returns-4 c =
     (stepOf windowOf (a .w) (drop (a .from) (a .block .now))) (i .left) (c .before .before .if3 .left) refl
     (ready-refused windowOf (a .w) (drop (a .from) (a .block .now)) (ap (readyOf (a .w)) (length-drop (a .from) (a .block .now)) ∙ sym (c .before .ready .ensures) ∙ not-true _ (c .if4 .taken)))
 
+rows-requires : tie.Need-rows-requires
+rows-requires c κs = search needs
+
 slice-aggregate-from-start : tie.Need-slice-aggregate-from-start
 slice-aggregate-from-start c = search needs
 
 from-start-requires : tie.Need-from-start-requires
 unfolding pairs pairsFrom
 from-start-requires c κs =
-    let a = c .before .before .before .before .before .before .before .before .before .before .before .args in
-    let r = ready-all (a .w) (length (a .block .now) - a .from)
-    (sym (c .before .before .before .before .before .ready .ensures) ∙ not-false _ (c .before .before .before .before .if4 .left)) in (
-      omega (arith, c .before .before .before .before .before .before .before .before .if1 .left),
-      omega (arith, c .before .before .before .before .before .before .before .if2 .left),
+    let rows = c .before .before .before .before .before in
+    let ready = rows .before .before in
+    let a = c .before .before .before .before .before .before .before .before .before .before .before .before .before .args in
+    let r = ready-all (a .w) (length (a .block .now) - a .from) (sym (ready .ready .ensures) ∙ not-false _ (rows .before .if4 .left)) in (
+      omega (arith, ready .before .before .before .if1 .left),
+      omega (arith, ready .before .before .if2 .left),
       omega (arith, r .room),
       r .two,
       r .counted,
       refl,
+      rows .rows .ensures,
     )
 
 same-length : tie.Need-same-length
@@ -73,10 +78,12 @@ same-length c = search needs
 
 returns-5 : tie.Need-returns-5
 returns-5 c =
-    let a = c .before .before .before .before .before .before .before .before .before .before .before .before .before .before .args in
-    let l = held-long (c .before .before .before .before .before .before .before .before .before .before .before .before) in
+    let rows = c .before .before .before .before .before .before .before .before in
+    let ready = rows .before .before in
+    let a = c .before .before .before .before .before .before .before .before .before .before .before .before .before .before .before .before .args in
+    let l = held-long (c .before .before .before .before .before .before .before .before .before .before .before .before .before .before) in
     rw
-    (start-of (a .w) (length (a .block .now) - a .from) l (sym (c .before .before .before .before .before .before .before .before .ready .ensures) ∙ not-false _ (c .before .before .before .before .before .before .before .if4 .left)) (c .before .before .before .before .before .if5 .taken))
+    (start-of (a .w) (length (a .block .now) - a .from) l (sym (ready .ready .ensures) ∙ not-false _ (rows .before .if4 .left)) (c .before .before .before .before .before .before .if5 .taken))
     at (c .before .before .from-start .ensures)
 
 slice-aggregate-from-inside : tie.Need-slice-aggregate-from-inside
@@ -84,16 +91,15 @@ slice-aggregate-from-inside c = search needs
 
 from-inside-requires : tie.Need-from-inside-requires
 unfolding pairs pairsFrom
-from-inside-requires c κs = (
-  c .before .before .before .before .before .before .before .before .if1 .left,
-  omega (
-    arith,
-    c .before .before .before .before .before .before .before .if2 .left,
-    c .before .before .before .before .before .before .if3 .left,
-  ),
-  sym (c .before .before .before .before .before .ready .ensures) ∙ not-false _ (c .before .before .before .before .if4 .left),
-  refl,
-)
+from-inside-requires c κs =
+    let rows = c .before .before .before .before .before in
+    let ready = rows .before .before in (
+      ready .before .before .before .if1 .left,
+      omega (arith, ready .before .before .if2 .left, ready .before .if3 .left),
+      sym (ready .ready .ensures) ∙ not-false _ (rows .before .if4 .left),
+      refl,
+      rows .rows .ensures,
+    )
 
 same-length-2 : tie.Need-same-length-2
 same-length-2 c = search needs
@@ -112,6 +118,7 @@ walk-block-spec =
     sub-left
     ready-requires
     returns-4
+    rows-requires
     slice-aggregate-from-start
     from-start-requires
     same-length
