@@ -3,21 +3,21 @@
 use Prim.Native.Nat.{ℕ, _+_, _*_, _/_, _%_, _^_, _≤_, _<_}
 use mathlib.Core.Path.{_≡_, refl, sym, ap, _∙_}
 use mathlib.Core.Bool.{Bool, true, false, cond, _&&_}
-use mathlib.Core.List.{List, [], _∷_, _++_}
+use mathlib.Core.List.{List, [], _∷_}
 use native.Mathlib.Omega.{arith}
 use borrow.Author.Tests.{leb-true, eqb-true, eqb-false}
 use lib.Bits.{bitAnd}
 use lib.Dec.{T, leb, eqb, eqb→eq}
 use lib.ListN.{length, getD}
 use Rattle.format.specs.Codes.{side}
-use Rattle.format.specs.Layout.{Kind, num, time, text, code, etp, subtype, skip, width, widths, member, be, part, got, judge, field}
+use Rattle.format.specs.Layout.{Kind, num, time, text, code, etp, subtype, skip, widths, member, be, part, got, judge, field}
 use Rattle.format.specs.Rows.{Row, Found, found, none, find, window}
 use Rattle.format.specs.Rows as Rows
 use Rattle.format.specs.Utf8.{wellFormed}
 use Rattle.format.proofs.Bytes.{Bytes, be-one}
 use Rattle.format.proofs.Fields.{field-num, field-text, field-judged}
 use Rattle.format.proofs.Runs.{Reads, end, _⨾_, body-reads}
-use Rattle.format.proofs.Tests.{both, is-true}
+use Rattle.format.proofs.Tests.{both}
 use Rattle.format.proofs.Text.{ascii}
 use Rattle.format.proofs.Windows.{pre, window-there}
 use Rattle.records.specs.declared.Message.{Message}

@@ -6,7 +6,7 @@ use mathlib.Core.List.{List, [], _∷_}
 use native.Mathlib.Omega.{arith}
 use lib.ListN.{length}
 use Rattle.format.specs.Layout.{num, be, part, got, field}
-use Rattle.format.specs.Meaning.{faultM, num64M}
+use Rattle.format.specs.Meaning.{num64M}
 use Rattle.format.specs.declared.Fault.{Fault}
 use Rattle.format.specs.declared.Fault.the-variants.{Short, Refused}
 use Rattle.format.specs.declared.Num64.{Num64}

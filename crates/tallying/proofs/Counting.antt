@@ -13,7 +13,7 @@ use Rattle.stream.specs.declared.Answer.the-variants.{Message, Wants}
 use Rattle.stream.specs.Next.{nextOf}
 use Rattle.stream_laws.specs.Ends.{stops}
 use Rattle.stream_laws.proofs.Calls.{next-message, next-other, next-stops}
-use Rattle.tallying.specs.Counts.{sum, Counters, raised, Taken, more, none, Drained}
+use Rattle.tallying.specs.Counts.{sum, Counters, raised, Taken, more, none, Skimmed, Drained}
 
 -- a counter raised by one raises the sum by one
 sum-raised : (c : List ℕ) (k : ℕ) → k < length c → sum (set c k (getD c k 0 + 1)) ≡ sum c + 1
@@ -46,12 +46,13 @@ rises b s r m e a =
     ∙ next-message s b m (ap (λ (x : Step). x .answer) (sym e) ∙ a) .messages
 
 -- the state and the counters behind it
-pub again : (b : List ℕ) (s₀ : Stream) (c₀ : List ℕ) (s : Stream) (c : List ℕ) (r : Step) (m : Record) → Taken b s₀ c₀ s c → Counters c (s .messages)
-    → r ≡ nextOf s b → r .answer ≡ Message m → m .tag < 256 → Taken b s₀ c₀ (r .state) (raised c m) × Counters (raised c m) (r .state .messages)
-again b s₀ c₀ s c r m t k e a h = (
-  subst (λ (x : Step). Taken b s₀ c₀ (x .state) (raised c m)) (sym e) (more t m (ap (λ (x : Step). x .answer) (sym e) ∙ a)),
-  rw (rises b s r m e a) (raises c m (s .messages) k h),
-)
+pub again : {b : List ℕ} {s₀ : Stream} {c₀ : List ℕ} {s : Stream} {c : List ℕ} {r : Step} {m : Record} → Skimmed b s₀ c₀ s c → r ≡ nextOf s b
+    → r .answer ≡ Message m → m .tag < 256 → Skimmed b s₀ c₀ (r .state) (raised c m)
+again {b} {s₀} {c₀} {s} {c} {r} {m} p e a h =
+    record {
+      taken = subst (λ (x : Step). Taken b s₀ c₀ (x .state) (raised c m)) (sym e) (more (p .taken) m (ap (λ (x : Step). x .answer) (sym e) ∙ a));
+      counted = rw (rises b s r m e a) (raises c m (s .messages) (p .counted) h);
+    }
 
 -- an answer that is no message leaves the count
 pub counts : (b : List ℕ) (s : Stream) (c : List ℕ) (r : Step) → Counters c (s .messages) → r ≡ nextOf s b → ((m : Record) → r .answer ≡ Message m → ⊥)

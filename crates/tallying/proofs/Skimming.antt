@@ -1,7 +1,7 @@
 -- A plain message in front is the one that next answers; and what was skimmed goes on from what was taken before.
 -- Assumes nothing.
 use Prim.Native.Nat.{ℕ, _+_, _-_, _≤_, _<_}
-use mathlib.Core.Path.{_≡_, refl, sym, ap, subst, _∙_}
+use mathlib.Core.Path.{_≡_, refl, sym, _∙_}
 use mathlib.Core.Bool.{false}
 use mathlib.Core.List.{List}
 use native.Mathlib.Omega.{arith}
@@ -12,13 +12,12 @@ use Rattle.records.specs.declared.Message.{Message as Record}
 use Rattle.reader.specs.declared.Window.the-variants.{Message as Accepted}
 use Rattle.reader.specs.Window.{windowOf}
 use Rattle.plain.specs.Plain.{Table, plainOf}
-use Rattle.plain.proofs.Accepts.{Front, plain-accepts}
+use Rattle.plain.proofs.Accepts.{plain-accepts}
 use Rattle.stream.specs.declared.Stream.{Stream}
-use Rattle.stream.specs.declared.Step.{Step}
 use Rattle.stream.specs.Next.{windowAt, taken, nextOf}
 use Rattle.stream.proofs.Windows.{within}
 use Rattle.stream_laws.proofs.Calls.{next-message}
-use Rattle.tallying.specs.Counts.{Counters, Taken, none, more, Skimmed}
+use Rattle.tallying.specs.Counts.{Taken, none, more, Skimmed}
 use Rattle.tallying.proofs.Counting.{again}
 
 -- a message in front that is taken, and what is read of it
@@ -56,8 +55,7 @@ pub skims : (b : List ℕ) (s₀ : Stream) (c₀ : List ℕ) (s : Stream) (c : L
     (set c k (getD c k 0 + 1))
 skims b s₀ c₀ s c n k p t e =
     let g : k ≡ t .message .tag = e ∙ sym (t .tag) in
-    let a = again b s₀ c₀ s c (taken s (t .message) n) (t .message) (p .taken) (p .counted) (t .next) refl (omega (arith, t .tag, t .byte)) in
-    rw g (record { taken = a .0; counted = a .1 })
+    rw g (again p (t .next) refl (omega (arith, t .tag, t .byte)))
 
 -- messages taken behind messages taken
 joined : {b : List ℕ} {s : Stream} {c : List ℕ} {t : Stream} {d : List ℕ} {u : Stream} {e : List ℕ} → Taken b s c t d → Taken b t d u e → Taken b s c u e

@@ -1,7 +1,7 @@
 -- `tallying::drain` meets its contract. What falls each turn: the messages that the count still allows.
 -- Assumes nothing.
 use Prim.Native.Nat.{_-_}
-use mathlib.Core.Path.{_≡_, sym, _∙_}
+use mathlib.Core.Path.{sym, _∙_}
 use native.Mathlib.Omega.{arith}
 use Rattle.stream_laws.proofs.Calls.{not-message}
 use Rattle.tallying.specs.Counts.{Skimmed, none}
@@ -61,8 +61,7 @@ loop-less c = omega (arith, c .before .before .before .before .before .before .n
 loop-again : tie.Need-loop-again Inv-loop μ-loop
 loop-again c =
     let p = onward (c .before .before .before .before .before .before .before .before .before .before .before .loop .inv) (c .before .before .before .before .before .before .before .before .before .skim .ensures) in
-    let q = again _ _ _ _ _ _ _ (p .taken) (p .counted) (c .before .before .before .before .before .before .next-of .ensures) (c .before .before .before .answer .given .1) (search needs) in
-    record { taken = q .0; counted = q .1 }
+    again p (c .before .before .before .before .before .before .next-of .ensures) (c .before .before .before .answer .given .1) (search needs)
 
 pub drain-spec : {M : Type 1} → statement M
 drain-spec =
