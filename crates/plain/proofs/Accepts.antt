@@ -1,4 +1,4 @@
--- A plain message is accepted, and its end is where the table says. One law over the fields of a body; the table is looked into only for its bits.
+-- A plain message is accepted, and its end is where the table says: one law over the fields of a body, and the bits of a row. And there is one table.
 -- Assumes nothing.
 use Prim.Native.Nat.{ℕ, _+_, _*_, _/_, _%_, _^_, _≤_, _<_}
 use mathlib.Core.Path.{_≡_, refl, sym, ap, _∙_}
@@ -9,6 +9,7 @@ use borrow.Author.Tests.{leb-true, eqb-true, eqb-false}
 use lib.Bits.{bitAnd}
 use lib.Dec.{T, leb, eqb, eqb→eq}
 use lib.ListN.{length, getD}
+use lib.Seq.{ext-getD}
 use Rattle.format.specs.Codes.{side}
 use Rattle.format.specs.Layout.{Kind, num, time, text, code, etp, subtype, skip, widths, member, be, part, got, judge, field}
 use Rattle.format.specs.Rows.{Row, Found, found, none, find, window}
@@ -188,3 +189,7 @@ plain-accepts w rows n b t e h = go (leb 52 (length w)) refl e
         let i : 52 ≤ length w = leb-true 52 (length w) l in
         (by-table w rows n b t i e h, i)
     go false l e = absurd (omega arith)
+
+-- the rule leaves one table
+pub one-table : (x y : List ℕ) → length x ≡ 256 → length y ≡ 256 → Table x → Table y → x ≡ y
+one-table x y h k p q = ext-getD 0 x y (h ∙ sym k) (λ i l. p i (omega arith) ∙ sym (q i (omega arith)))

@@ -2,7 +2,6 @@
 -- Assumes nothing.
 use Prim.Native.Nat.{ℕ, _+_, _-_, _≤_, _<_}
 use mathlib.Core.Path.{_≡_, refl, sym, _∙_}
-use mathlib.Core.Bool.{false}
 use mathlib.Core.List.{List}
 use native.Mathlib.Omega.{arith}
 use borrow.Author.Tests.{le-leb, eq-eqb, ne-eqb}
@@ -49,13 +48,9 @@ takes s b rows n t h p q y e z f =
     }
 
 -- it is counted under its tag
-pub skims : (b : List ℕ) (s₀ : Stream) (c₀ : List ℕ) (s : Stream) (c : List ℕ) (n k : ℕ) → Skimmed b s₀ c₀ s c → Takes s b n → k ≡ getD (windowAt s b) 2 0
-    → Skimmed b s₀ c₀
-    (record { start = s .start + n; end = s .end; «bytes_read» = s .«bytes_read»; «read_calls» = s .«read_calls»; messages = s .messages + 1; error = false })
-    (set c k (getD c k 0 + 1))
-skims b s₀ c₀ s c n k p t e =
-    let g : k ≡ t .message .tag = e ∙ sym (t .tag) in
-    rw g (again p (t .next) refl (omega (arith, t .tag, t .byte)))
+pub skims : {b : List ℕ} {s₀ : Stream} {c₀ : List ℕ} {s : Stream} {c : List ℕ} {n : ℕ} → Skimmed b s₀ c₀ s c → (t : Takes s b n)
+    → Skimmed b s₀ c₀ (taken s (t .message) n .state) (set c (getD (windowAt s b) 2 0) (getD c (getD (windowAt s b) 2 0) 0 + 1))
+skims p t = rw (← t .tag) (again p (t .next) refl (omega (arith, t .tag, t .byte)))
 
 -- messages taken behind messages taken
 joined : {b : List ℕ} {s : Stream} {c : List ℕ} {t : Stream} {d : List ℕ} {u : Stream} {e : List ℕ} → Taken b s c t d → Taken b t d u e → Taken b s c u e
@@ -65,9 +60,6 @@ joined p (more q m e) = more (joined p q) m e
 pub onward : {b : List ℕ} {s : Stream} {c : List ℕ} {t : Stream} {d : List ℕ} {u : Stream} {e : List ℕ} → Skimmed b s c t d → Skimmed b t d u e → Skimmed b s c u e
 onward p q = record { taken = joined (p .taken) (q .taken); counted = q .counted }
 
-rising : {b : List ℕ} {s : Stream} {c : List ℕ} {t : Stream} {d : List ℕ} → Taken b s c t d → s .messages ≤ t .messages
+pub rising : {b : List ℕ} {s : Stream} {c : List ℕ} {t : Stream} {d : List ℕ} → Taken b s c t d → s .messages ≤ t .messages
 rising none = omega arith
 rising {b = b} (more {t = t} p m e) = omega (arith, rising p, next-message t b m e .messages)
-
-pub skimmed-rises : {b : List ℕ} {s : Stream} {c : List ℕ} {t : Stream} {d : List ℕ} → Skimmed b s c t d → s .messages ≤ t .messages
-skimmed-rises p = rising (p .taken)

@@ -14,7 +14,7 @@ use stream::Answer;
 use stream::Step;
 use stream::Stream;
 
-// Takes and counts the plain messages in front, with no jump by tag or side.
+// Takes and counts the plain messages in front, with no jump by tag or side: such jumps are most of the time that `next_of` takes.
 fn skim(s0: Stream, b: &[u8], rows: &[u64; 256], count: &mut [u64]) -> Stream
     requires { ⌜ Counters (now count) (s0 .messages) × (length (now b) ≡ 8192) × Table (now rows) ⌝ }
     ensures { λ r. ⌜ Skimmed (now (b .entry)) s0 (now (count .entry)) r (now (count .exit)) ⌝ }
@@ -53,7 +53,8 @@ fn skim(s0: Stream, b: &[u8], rows: &[u64; 256], count: &mut [u64]) -> Stream
     }
 }
 
-// Takes and counts the window's messages, to the first answer that is none. The loop has this one way out, so that it stays small.
+// Takes and counts the window's messages, the plain ones by `skim`, to the first answer that is none. The loop has this one way out, so that it
+// stays small.
 fn drain(s0: Stream, b: &[u8], rows: &[u64; 256], count: &mut [u64]) -> Step
     requires { ⌜ Counters (now count) (s0 .messages) × (length (now b) ≡ 8192) × Table (now rows) ⌝ }
     ensures { λ r. ⌜ Drained (now (b .entry)) s0 (now (count .entry)) r (now (count .exit)) ⌝ }

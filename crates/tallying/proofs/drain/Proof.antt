@@ -6,7 +6,7 @@ use native.Mathlib.Omega.{arith}
 use Rattle.stream_laws.proofs.Calls.{not-message}
 use Rattle.tallying.specs.Counts.{Skimmed, none}
 use Rattle.tallying.proofs.Counting.{counter-below, rises, again, counts}
-use Rattle.tallying.proofs.Skimming.{onward, skimmed-rises}
+use Rattle.tallying.proofs.Skimming.{onward, rising}
 use borrow.Author.Needs.{needs}
 use Rattle.tallying.proofs.drain.Statement.{statement}
 use Rattle.tallying.proofs.drain.Tie as tie
@@ -56,7 +56,7 @@ slice-write-count : tie.Need-slice-write-count Inv-loop μ-loop
 slice-write-count c = omega (arith, c .before .before .before .before .before .before .before .before .before .skim .ensures .counted .all)
 
 loop-less : tie.Need-loop-less Inv-loop μ-loop
-loop-less c = omega (arith, c .before .before .before .before .before .before .next-of .ok, rises _ _ _ _ (c .before .before .before .before .before .before .next-of .ensures) (c .before .before .before .answer .given .1), skimmed-rises (c .before .before .before .before .before .before .before .before .before .skim .ensures))
+loop-less c = omega (arith, c .before .before .before .before .before .before .next-of .ok, rises _ _ _ _ (c .before .before .before .before .before .before .next-of .ensures) (c .before .before .before .answer .given .1), rising (c .before .before .before .before .before .before .before .before .before .skim .ensures .taken))
 
 loop-again : tie.Need-loop-again Inv-loop μ-loop
 loop-again c =

@@ -1,7 +1,7 @@
 -- `tallying::skim` meets its contract. What falls each turn: the messages that the count still allows.
 -- Assumes nothing.
 use Prim.Native.Nat.{_-_}
-use mathlib.Core.Path.{refl, sym, _∙_}
+use mathlib.Core.Path.{sym, _∙_}
 use native.Mathlib.Omega.{arith}
 use lib.ListN.{getD}
 use denote.Ref.{now}
@@ -92,7 +92,7 @@ loop-less : tie.Need-loop-less Inv-loop μ-loop
 loop-less c = search needs
 
 loop-again : tie.Need-loop-again Inv-loop μ-loop
-loop-again c = skims _ _ _ _ _ _ _ (c .before .before .before .before .before .before .before .before .loop .inv) (front (c .before)) refl
+loop-again c = skims (c .before .before .before .before .before .before .before .before .loop .inv) (front (c .before))
 
 pub skim-spec : {M : Type 1} → statement M
 skim-spec =
