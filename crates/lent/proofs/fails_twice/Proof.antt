@@ -1,10 +1,16 @@
--- `lent::fails_twice` meets its contract: a walk of its MIR, by hand. A Stream is made in a local and lent twice to `told_failed`, each time for a lifetime that is made for the call.
+-- `lent::fails_twice` meets its contract: a walk of its MIR, by hand. A Stream is made in a local and lent twice to `told_failed`,
+-- each time for a lifetime that is made for the call.
 -- Assumes nothing.
-use Rattle.lent.proofs.Prelude.{_≡_, refl, ap, ℕ, [], _∷_, URA, fullShare, named, Val, vptr, SProp, ent, emp, id⊢, GName, ftrue, fat, flft, Memory, Routine, Heap, Calls, Loops, WpFn, Atoms, sem, Fun, givenOf, tables, Given, ‵, raw, _⊛_, some, later, _$_, _∵_, !, qed, by, move, drop, use0, use1, use2, split, join, pick, rewrite, fsplit, fjoin, suffices, frame, await, done, use3, ⋆, look, init, stop, from, load, of-opd, no-more, assigns, land, returns, enter, alloc1, alloc0, params1, pass0, free0, addr, Body, FmC, Is, shows, mem, RefT, MutRef, only, peeks, nothing, Contract, Triple, calls-at, onEntry, tripleOf, cited, says, Stays, walkOf, ends-at}
+use Rattle.lent.proofs.Prelude.{_≡_, refl, ap, ℕ, [], _∷_}
+use Rattle.lent.proofs.Prelude.{URA, fullShare, Val, vptr, SProp, ent, emp, id⊢, GName, ftrue, fat, flft}
+use Rattle.lent.proofs.Prelude.{Memory, Routine, Heap, Calls, Loops, WpFn, Atoms, sem, Fun, givenOf, tables, FmC}
+use Rattle.lent.proofs.Prelude.{Given, ‵, raw, _⊛_, _$_, _∵_, !, qed, by, move, drop, use0, use1, use2, split, join, rewrite, fsplit, fjoin, suffices}
+use Rattle.lent.proofs.Prelude.{frame, done, ⋆}
+use Rattle.lent.proofs.Prelude.{look, init, stop, from, load, of-opd, no-more, assigns, land, returns, enter, alloc1, alloc0, params1, pass0, free0}
+use Rattle.lent.proofs.Prelude.{addr}
+use Rattle.lent.proofs.Prelude.{Is, shows, only, peeks, nothing, Contract, Triple, calls-at, onEntry, tripleOf, cited, says, Stays, walkOf, ends-at}
 use mathlib.Core.Path.{_∙_}
-use base.Fml.{flent}
-use types.Tokens.{lft-new, lft-end}
-use denote.Lend.{lends-ref, ref-back}
+use types.Tokens.{lft-new}
 use denote.Struct.Laws as LL
 use Rattle.stream.specs.State.{freshState}
 use Rattle.stream.specs.Told.{failedOf}
@@ -23,7 +29,7 @@ use Rattle.lent.proofs.told_failed as g
 use Rattle.lent.proofs.told_failed.Symbol as g-def
 use Rattle.lent.proofs.told_failed.Symbol.{name as #lent·told-failed}
 use Rattle.lent.proofs.told_failed.Met as g-thm
-use Rattle.lent.proofs.Held.{state-typed, answer-typed, settles-stream, rises-stream, hands, gone}
+use Rattle.lent.proofs.Held.{state-typed, answer-typed, ref-at, settles-stream, rises-stream, lends-stream, ends-loan, hands, gone}
 use Rattle.lent.proofs.Walk.{by-walk, hears}
 use Rattle.lent.proofs.fails_twice.Key.{name as #lent·fails-twice}
 use Rattle.lent.proofs.fails_twice as f
@@ -34,12 +40,12 @@ abbrev stayed : Stays (f.ended .signature .params) (f.ended .kept)
 stayed = tt
 
 -- the contracts that the proof cites
-module _ {M : Type 1} (𝓤 : URA M) (H : Heap 𝓤) (A : Atoms 𝓤) (mem′ : Memory → SProp 𝓤) (run : Routine → Fun 𝓤) where
+module _ {M : Type 1} (𝓤 : URA M) (H : Heap 𝓤) (A : Atoms 𝓤) (mem : Memory → SProp 𝓤) (run : Routine → Fun 𝓤) where
   abbrev Fresh : Contract 𝓤
-  Fresh = tripleOf 𝓤 H A n.signature (n.spec 𝓤 H A mem′ run)
+  Fresh = tripleOf 𝓤 H A n.signature (n.spec 𝓤 H A mem run)
 
   abbrev Failed : Contract 𝓤
-  Failed = tripleOf 𝓤 H A g.signature (g.spec 𝓤 H A mem′ run)
+  Failed = tripleOf 𝓤 H A g.signature (g.spec 𝓤 H A mem run)
 
 -- the plain fact: the second time nothing more is said
 twice : (s₀ s₁ : Stream) (a : Answer) → s₀ ≡ freshState → s₁ ≡ failedOf s₀ .state → a ≡ failedOf s₁ .answer → a ≡ Nothing
@@ -56,16 +62,14 @@ module _ {M : Type 1} (𝓤 : URA M) (H : Heap 𝓤) (A : Atoms 𝓤) (W : Given
   goes-fresh : ent 𝓤 (emp 𝓤) (Fresh 𝓤 H A at-mem run .pre to-fresh)
   goes-fresh = qed W [] ∵ nothing ! $ nothing ! $ join ! $ frame ! $ done !
 
-  -- the local at (l, 0), lent for the lifetime ν under the name γ at the record h
-  abbrev x : ℕ → GName → Stream → RefT Stream
-  x l γ h = record { ptr = (l, 0); name = γ; now = h }
-
+  -- the local l is lent for the lifetime ν, under the name γ, at the record h
   abbrev to : ℕ → ℕ → GName → Stream → Failed 𝓤 H A at-mem run .Ghost
-  to l ν γ h = (((ν ∷ [], tt), (fullShare, tt), tt, (x l γ h, tt), (vptr l 0 ∷ [], tt)), tt)
+  to l ν γ h = (((ν ∷ [], tt), (fullShare, tt), tt, (record { ptr = (l, 0); name = γ; now = h }, tt), (vptr l 0 ∷ [], tt)), tt)
 
-  goes : (l ν : ℕ) (γ : GName) (h : Stream) → ent 𝓤 (⋆ 𝓤 H A (‵ (MutRef (named 0) (ν ∷ []) T.the-row .own (x l γ h) (vptr l 0 ∷ [])) ∷ ‵ (flft (ν ∷ []) fullShare) ∷ [])) (Failed 𝓤 H A at-mem run .pre (to l ν γ h))
+  goes : (l ν : ℕ) (γ : GName) (h : Stream)
+      → ent 𝓤 (⋆ 𝓤 H A (ref-at 𝓤 (ν ∷ []) l 0 γ h ∷ ‵ (flft (ν ∷ []) fullShare) ∷ [])) (Failed 𝓤 H A at-mem run .pre (to l ν γ h))
   goes l ν γ h =
-      qed W (‵ (MutRef (named 0) (ν ∷ []) T.the-row .own (x l γ h) (vptr l 0 ∷ [])) ∷ ‵ (flft (ν ∷ []) fullShare) ∷ []) ∵
+      qed W (ref-at 𝓤 (ν ∷ []) l 0 γ h ∷ ‵ (flft (ν ∷ []) fullShare) ∷ []) ∵
       nothing ! $ move ! (1 ∷ 0 ∷ []) $ fjoin ! $ nothing ! $ move ! (2 ∷ 0 ∷ []) $ join ! $ move ! (0 ∷ 1 ∷ []) $ join ! $ frame ! $ done !
 
   abbrev Said : Stream → Answer → Stream → Type 0
@@ -93,29 +97,33 @@ module _ {M : Type 1} (𝓤 : URA M) (H : Heap 𝓤) (A : Atoms 𝓤) (W : Given
         -- [what a Stream owns; room for _5; …; _4; …; _3; …; _2; …; _1; …; room for _0; …]: _4 = &mut _1
         assigns ! (addr ! (from ! (stop !))) (from ! (stop !)) (init ! 3 refl (tt, tt)) $
         move ! (9 ∷ 0 ∷ []) $ settles-stream ! h l₁ 0 $ lft-new ! tt (λ ν. move ! (1 ∷ []) $
-        use1 W (later (some (λ (γ : GName). ‵ (MutRef (named 0) (ν ∷ []) T.the-row .own (x l₁ γ h) (vptr l₁ 0 ∷ [])) ⊛ ‵ (flent (ν ∷ []) (Body (mem T.the-row) l₁ 0 γ))))) (lends-ref 𝓤 H A W T.the-row (named 0) (ν ∷ []) h l₁ 0) $ await ! tt $ pick ! (λ γ. split ! $
+        lends-stream ! tt (ν ∷ []) h l₁ 0 (λ γ.
         -- [the reference; what waits; the token; room for _5; …; _4; …; _3; …; _2; …; (of _1) …; room for _0; …]: _3 = told_failed(_4)
         move ! (0 ∷ 2 ∷ []) $ use2 W (raw (Failed 𝓤 H A at-mem run .pre (to l₁ ν γ h))) (goes l₁ ν γ h) $
         calls-at ! fm (Failed 𝓤 H A at-mem run) known (to l₁ ν γ h) (hands ! 4 refl (no-more !)) (λ v₁.
         hears ! tt g.ended (g.clauses 𝓤 H A at-mem run) (to l₁ ν γ h) (λ a zs. Said h a (zs .0)) (λ a zs. id⊢ 𝓤 _) (λ a₁ zs e₁.
         move ! (2 ∷ []) $ fsplit ! $ move ! (1 ∷ []) $ drop ! $ move ! (1 ∷ 2 ∷ []) $
         -- [the answer; the token; the last record; what waits; room for _5; …; _4; …; _3; …; _2; …; (of _1) …; room for _0; …]
-        peeks ! N.the-row (Is N.the-row) (shows 𝓤 H A N.the-row) a₁ (v₁ ∷ []) (λ is₁. land ! (from ! (stop !)) (init ! 8 {τ = N′.mir} refl (answer-typed 𝓤 H A W a₁ is₁)) $ drop ! $
-        use1 W (‵ (flft (ν ∷ []) fullShare) ⊛ ‵ ftrue) (id⊢ 𝓤 _) $ split ! $ lft-end ! tt $ move ! (0 ∷ 3 ∷ 2 ∷ []) $ use3 W (later (‵ (mem T.the-row .lies (zs .0) l₁ 0))) (ref-back 𝓤 H A W T.the-row (ν ∷ []) γ (zs .0) l₁ 0) $ await ! tt $ move ! (1 ∷ []) $ drop ! $
+        peeks ! N.the-row (Is N.the-row) (shows 𝓤 H A N.the-row) a₁ (v₁ ∷ []) (λ is₁.
+        land ! (from ! (stop !)) (init ! 8 {τ = N′.mir} refl (answer-typed 𝓤 H A W a₁ is₁)) $ drop ! $
+        use1 W (‵ (flft (ν ∷ []) fullShare) ⊛ ‵ ftrue) (id⊢ 𝓤 _) $ split ! $ ends-loan ! tt (zs .0) l₁ 0 $
         -- [the record in _1; room for _5; …; _4; …; _3; …; _2; …; (of _1) …; room for _0; …]: _5 = &mut _1, and once more
         assigns ! (addr ! (from ! (stop !))) (from ! (stop !)) (init ! 1 refl (tt, tt)) $
         lft-new ! tt (λ ν′. move ! (1 ∷ []) $
-        use1 W (later (some (λ (γ′ : GName). ‵ (MutRef (named 0) (ν′ ∷ []) T.the-row .own (x l₁ γ′ (zs .0)) (vptr l₁ 0 ∷ [])) ⊛ ‵ (flent (ν′ ∷ []) (Body (mem T.the-row) l₁ 0 γ′))))) (lends-ref 𝓤 H A W T.the-row (named 0) (ν′ ∷ []) (zs .0) l₁ 0) $ await ! tt $ pick ! (λ γ′. split ! $
+        lends-stream ! tt (ν′ ∷ []) (zs .0) l₁ 0 (λ γ′.
         move ! (0 ∷ 2 ∷ []) $ use2 W (raw (Failed 𝓤 H A at-mem run .pre (to l₁ ν′ γ′ (zs .0)))) (goes l₁ ν′ γ′ (zs .0)) $
         calls-at ! fm (Failed 𝓤 H A at-mem run) known (to l₁ ν′ γ′ (zs .0)) (hands ! 2 refl (no-more !)) (λ v₂.
         hears ! tt g.ended (g.clauses 𝓤 H A at-mem run) (to l₁ ν′ γ′ (zs .0)) (λ a ws. Said (zs .0) a (ws .0)) (λ a ws. id⊢ 𝓤 _) (λ a₂ ws e₂.
         move ! (2 ∷ []) $ fsplit ! $ move ! (1 ∷ []) $ drop ! $ move ! (1 ∷ 2 ∷ []) $
-        peeks ! N.the-row (Is N.the-row) (shows 𝓤 H A N.the-row) a₂ (v₂ ∷ []) (λ is₂. land ! (from ! (stop !)) (init ! 13 {τ = N′.mir} refl (answer-typed 𝓤 H A W a₂ is₂)) $
+        peeks ! N.the-row (Is N.the-row) (shows 𝓤 H A N.the-row) a₂ (v₂ ∷ []) (λ is₂.
+        land ! (from ! (stop !)) (init ! 13 {τ = N′.mir} refl (answer-typed 𝓤 H A W a₂ is₂)) $
         -- [the answer; the token; the last record; what waits; _5; …]
-        move ! (1 ∷ []) $ use1 W (‵ (flft (ν′ ∷ []) fullShare) ⊛ ‵ ftrue) (id⊢ 𝓤 _) $ split ! $ lft-end ! tt $ move ! (0 ∷ 4 ∷ 3 ∷ []) $ use3 W (later (‵ (mem T.the-row .lies (ws .0) l₁ 0))) (ref-back 𝓤 H A W T.the-row (ν′ ∷ []) γ′ (ws .0) l₁ 0) $ await ! tt $ move ! (1 ∷ []) $ drop ! $
+        move ! (1 ∷ 2 ∷ 3 ∷ []) $ use1 W (‵ (flft (ν′ ∷ []) fullShare) ⊛ ‵ ftrue) (id⊢ 𝓤 _) $ split ! $ ends-loan ! tt (ws .0) l₁ 0 $
         rises-stream ! (ws .0) l₁ 0 (λ _. move ! (1 ∷ []) $ drop ! $
         -- [_1's cell; the answer; _5; …; _4; …; _3; …; _2; …; (of _1) …; _0; …]
-        returns ! (look ! 11 {τ = N′.mir} refl) $ move ! (11 ∷ 12 ∷ 0 ∷ 10 ∷ 8 ∷ 9 ∷ 6 ∷ 7 ∷ 4 ∷ 5 ∷ 2 ∷ 3 ∷ []) $ gone ! $ gone ! $ gone ! $ gone ! $ gone ! $ gone ! $ free0 ! $
+        returns ! (look ! 11 {τ = N′.mir} refl) $
+        move ! (11 ∷ 12 ∷ 0 ∷ 10 ∷ 8 ∷ 9 ∷ 6 ∷ 7 ∷ 4 ∷ 5 ∷ 2 ∷ 3 ∷ []) $
+        gone ! $ gone ! $ gone ! $ gone ! $ gone ! $ gone ! $ free0 ! $
         by ! (exits a₂ v₂ (twice h (zs .0) a₂ e₀ (e₁ .1) (e₂ .0)))))))))))))))))))))))
 
 pub fails-twice-spec : {M : Type 1} → stated.statement M

@@ -1,8 +1,16 @@
 -- `lent::make_room` meets its contract: a walk of its MIR, by hand, as `told_failed`'s. Start, end, the read calls and the slice, which is given up to it for good, are
 -- passed to `room_on`; start, end and the read calls are stored back.
 -- Assumes nothing.
-use Rattle.lent.proofs.Prelude.{_≡_, refl, ℕ, [], _∷_, List, URA, named, w64, Val, vptr, vint, SProp, ent, id⊢, GName, Lft, Share, ftrue, flft, fobs, fbor, Fml, Memory, Routine, Heap, Calls, Loops, WpFn, Atoms, Fun, givenOf, tables, Given, ‵, raw, _⊛_, _$_, _∵_, !, qed, by, move, keep, drop, use2, split, join, fsplit, fsplit3, fjoin, fjoin3, feqI, suffices, frame, done, ⋆, feqL, look, init, stop, hop, fld, from, load, and-then, no-more, assigns, returns, enter, alloc1, alloc0, params1, pass1, pass0, free0, addr, whole, sub, look-in, agg, Body, FmC, owns, Is, shows, mem, RefT, MutRef, ptr-vals, mut-tells, plain, owned, peeks, nothing, Contract, Triple, calls-at, onEntry, tripleOf, cited, says, Stays, stay-ref, walkOf, goes-ref, ends-at, gave-slice, goes-gave-slice, u8, sliceVal, slice-vals, MutSlice, Room, finally, mut-slice-tells, length}
-use denote.Enum.Laws as EL
+use Rattle.lent.proofs.Prelude.{_≡_, refl, ℕ, [], _∷_, List, length}
+use Rattle.lent.proofs.Prelude.{URA, named, w64, Val, vptr, vint, SProp, ent, id⊢, GName, Lft, Share, ftrue, flft, Fml}
+use Rattle.lent.proofs.Prelude.{Memory, Routine, Heap, Calls, Loops, WpFn, Atoms, Fun, givenOf, tables, FmC}
+use Rattle.lent.proofs.Prelude.{Item, Given, ‵, raw, _⊛_, _$_, _∵_, !, qed, by, move, keep, drop, use2, split, join, fsplit, fsplit3, fjoin, fjoin3}
+use Rattle.lent.proofs.Prelude.{feqI, suffices, frame, done, ⋆, feqL}
+use Rattle.lent.proofs.Prelude.{look, init, stop, hop, fld, from, load, and-then, no-more, assigns, returns, enter, alloc1, alloc0, params1, pass1}
+use Rattle.lent.proofs.Prelude.{pass0, free0, addr, whole, sub, look-in, agg}
+use Rattle.lent.proofs.Prelude.{owns, Is, shows, RefT, MutRef, ptr-vals, mut-tells, plain, peeks, nothing, Contract, Triple, calls-at, onEntry, tripleOf}
+use Rattle.lent.proofs.Prelude.{cited, says, Stays, stay-ref, walkOf, goes-ref, ends-at, gave-slice, goes-gave-slice, u8, sliceVal, slice-vals, MutSlice}
+use Rattle.lent.proofs.Prelude.{Room, finally, mut-slice-tells}
 use Rattle.stream.specs.Room.{roomOf, roomBuffer}
 use Rattle.stream.specs.declared.Stream.{Stream}
 use Rattle.stream.specs.declared.Step.{Step}
@@ -15,7 +23,10 @@ use Rattle.lent.proofs.room_on.Symbol as g-def
 use Rattle.lent.proofs.room_on.Symbol.{name as #lent·room-on}
 use Rattle.lent.proofs.room_on.Met as g-thm
 use Rattle.lent.proofs.Apart.{room-parts, room-into, room-back}
-use Rattle.lent.proofs.Held.{answer-val, Fits, fits, made, num, changed, answer-is, opens-stream, closes-stream, loads, stores, lands-step, answers, in-state, hands, gone, adds-num}
+use Rattle.lent.proofs.Held.{answer-val, Fits, fits, made, num, changed, answer-is, lent-at, opens-stream, closes-stream, owns-answer, loads, stores}
+use Rattle.lent.proofs.Held.{lands-step, answers, in-state, hands, gone, adds-num}
+use Rattle.lent.proofs.Held.{answer-val, Fits, fits, made, num, changed, answer-is, lent-at, opens-stream, closes-stream, owns-answer, loads, stores}
+use Rattle.lent.proofs.Held.{lands-step, answers, in-state, hands, gone, adds-num}
 use Rattle.lent.proofs.Walk.{by-walk, hears}
 use Rattle.lent.proofs.make_room.Key.{name as #lent·make-room}
 use Rattle.lent.proofs.make_room as f
@@ -46,8 +57,15 @@ module _ {M : Type 1} (𝓤 : URA M) (H : Heap 𝓤) (A : Atoms 𝓤) (W : Given
   abbrev Own : Fml
   Own = MutSlice (named 1) κ′ u8 .own s (sv ∷ [])
 
+  -- the contract of the function itself, and what it binds outside
+  abbrev Walked : Contract 𝓤
+  Walked = walkOf 𝓤 H A f.ended stayed (f.clauses 𝓤 H A at-mem run)
+
+  abbrev here : Walked .Ghost
+  here = (((κ, (κ′, tt)), (q, (q′, tt)), tt, x, at), tt)
+
   abbrev Post : Val → SProp 𝓤
-  Post = walkOf 𝓤 H A f.ended stayed (f.clauses 𝓤 H A at-mem run) .post (((κ, (κ′, tt)), (q, (q′, tt)), tt, x, at), tt)
+  Post = Walked .post here
 
   -- what the callee is passed, and what it ensures of a result and a last list
   abbrev args : ℕ × (ℕ × (ℕ × (RefT (List ℕ) × Unit {0})))
@@ -62,31 +80,50 @@ module _ {M : Type 1} (𝓤 : URA M) (H : Heap 𝓤) (A : Atoms 𝓤) (W : Given
   goes : Fits h → ent 𝓤 (⋆ 𝓤 H A ((‵ (flft κ′ q′) ⊛ ‵ ftrue) ∷ ‵ Own ∷ [])) (Callee 𝓤 H A at-mem run .pre to)
   goes p =
       qed W ((‵ (flft κ′ q′) ⊛ ‵ ftrue) ∷ ‵ Own ∷ []) ∵ nothing ! $ move ! (2 ∷ 0 ∷ []) $ fjoin ! $
-      adds-num ! (h .«read_calls») (p .1 .1 .1 .0) $ adds-num ! (h .end) (p .1 .0) $ adds-num ! (h .start) (p .0) $ move ! (1 ∷ 0 ∷ []) $ join ! $ frame ! $ done !
+      adds-num ! (h .«read_calls») (p .calls-fit) $
+      adds-num ! (h .end) (p .end-fits) $
+      adds-num ! (h .start) (p .start-fits) $
+      move ! (1 ∷ 0 ∷ []) $ join ! $ frame ! $ done !
+
+  -- what is stored back fits
+  kept : Fits h → (r : Step) → Fits (r .state) → Fits (room-into h r)
+  kept p r c = record { start-fits = c .start-fits; end-fits = c .end-fits; bytes-fit = p .bytes-fit; calls-fit = c .calls-fit; messages-fit = p .messages-fit }
+
+  -- what is had in the end
+  abbrev Left : Step → List ℕ → List (Item 𝓤)
+  Left r zs = lent-at 𝓤 κ q b o γ (room-into h r) ((‵ (flft κ′ q′) ⊛ ‵ ftrue) ∷ ‵ (finally u8 γ′ zs) ∷ [])
 
   exits : (r : Step) (zs : List ℕ) → Said r zs → length zs ≡ length ys → Is N.the-row (r .answer) (answer-val (r .answer) ∷ [])
-      → ent 𝓤 (⋆ 𝓤 H A (‵ (fobs γ (T.the-row .coded .code (room-into h r))) ∷ ‵ (fbor κ (Body (mem T.the-row) b o γ)) ∷ ‵ (flft κ q) ∷ (‵ (flft κ′ q′) ⊛ ‵ ftrue) ∷ ‵ (finally u8 γ′ zs) ∷ [])) (Post (answer-val (r .answer)))
+      → ent 𝓤 (⋆ 𝓤 H A (Left r zs)) (Post (answer-val (r .answer)))
   exits r zs e l is =
-      qed W (‵ (fobs γ (T.the-row .coded .code (room-into h r))) ∷ ‵ (fbor κ (Body (mem T.the-row) b o γ)) ∷ ‵ (flft κ q) ∷ (‵ (flft κ′ q′) ⊛ ‵ ftrue) ∷ ‵ (finally u8 γ′ zs) ∷ []) ∵
-      suffices ! _ (ends-at 𝓤 H A f.ended stayed (f.clauses 𝓤 H A at-mem run) W (((κ, (κ′, tt)), (q, (q′, tt)), tt, x, at), tt) (answer-val (r .answer)) (r .answer) (room-into h r, (zs, tt)) (tt, (l, tt))) $
+      qed W (Left r zs) ∵
+      suffices ! _ (ends-at 𝓤 H A f.ended stayed (f.clauses 𝓤 H A at-mem run) W here (answer-val (r .answer)) (r .answer) (room-into h r, (zs, tt)) (tt, (l, tt))) $
       says ! (room-back h ys r zs e) $
-      move ! (2 ∷ 3 ∷ []) $ join ! $ frame ! $ feqI ! (List Val) (vptr b o ∷ []) (vptr b o ∷ []) refl $ fjoin3 ! $ nothing ! $ move ! (2 ∷ 0 ∷ []) $ fjoin ! $ move ! (1 ∷ 0 ∷ []) $ fjoin ! $ frame ! $
-      owned ! N.the-row (Is N.the-row) (EL.makes N.the-type N′.the-plain 𝓤 H A) (r .answer) _ is $ done !
+      move ! (2 ∷ 3 ∷ []) $ join ! $ frame ! $
+      feqI ! (List Val) (vptr b o ∷ []) (vptr b o ∷ []) refl $ fjoin3 ! $
+      nothing ! $ move ! (2 ∷ 0 ∷ []) $ fjoin ! $ move ! (1 ∷ 0 ∷ []) $ fjoin ! $ frame ! $
+      owns-answer ! (r .answer) is $ done !
 
   module _ (C : Calls 𝓤 H) (Λ : Loops 𝓤 H) (fm : FmC 𝓤 H (W .laws) C) (known : Triple 𝓤 (C #lent·room-on) (Callee 𝓤 H A at-mem run)) where
     walk : Room u8 (length ys) → ent 𝓤 (onEntry 𝓤 H A f.signature (κ, (κ′, tt)) (q, (q′, tt)) x at) (WpFn 𝓤 H C Λ code.function (vptr b o ∷ sv ∷ []) Post)
     walk room =
-        qed W ((‵ (flft κ q) ⊛ ‵ (flft κ′ q′) ⊛ ‵ ftrue) ∷ ‵ (owns (MutRef (named 0) κ T.the-row ∷ MutSlice (named 1) κ′ u8 ∷ []) x at) ∷ []) ∵ split ! $ move ! (2 ∷ []) $ fsplit ! $ fsplit3 ! $ drop ! $
+        qed W ((‵ (flft κ q) ⊛ ‵ (flft κ′ q′) ⊛ ‵ ftrue) ∷ ‵ (owns (MutRef (named 0) κ T.the-row ∷ MutSlice (named 1) κ′ u8 ∷ []) x at) ∷ []) ∵
+        split ! $ move ! (2 ∷ []) $ fsplit ! $ fsplit3 ! $ drop ! $
         move ! (2 ∷ []) $ fsplit ! $ move ! (2 ∷ 3 ∷ 4 ∷ 5 ∷ 0 ∷ []) $
         -- [obs; the borrow; the token; the slice's token; what buf owns; true]
         enter ! C Λ code.function (vptr b o ∷ sv ∷ []) _ $
-        alloc1 ! (λ l₀. alloc1 ! (λ l₁. alloc1 ! (λ l₂. alloc1 ! (λ l₃. alloc1 ! (λ l₄. alloc1 ! (λ l₅. alloc1 ! (λ l₆. alloc1 ! (λ l₇. alloc1 ! (λ l₈. alloc0 ! $ params1 ! $ pass1 ! (init ! 14 refl (tt, tt)) $
+        alloc1 ! (λ l₀. alloc1 ! (λ l₁. alloc1 ! (λ l₂. alloc1 ! (λ l₃. alloc1 ! (λ l₄. alloc1 ! (λ l₅. alloc1 ! (λ l₆. alloc1 ! (λ l₇.
+        alloc1 ! (λ l₈.
+        alloc0 ! $ params1 ! $ pass1 ! (init ! 14 refl (tt, tt)) $
         pass1 ! (init ! 12 refl (tt, (tt, (record { fits = room .0 }, tt)))) $ pass0 ! $
         move ! (18 ∷ 19 ∷ 20 ∷ []) $ opens-stream ! tt h b o (λ was.
         -- [the record's cell; what a Stream owns; the open borrow; obs; auth; room for _8; …; _7; …; _6; …; _5; …; _4; …; _3; …; _2; …; _1; …; room for _0; …; the slice's token; what buf owns]
-        loads ! 19 13 0 refl refl refl (num (fits h was .0)) $ loads ! 19 11 1 refl refl refl (num (fits h was .1 .0)) $ loads ! 19 9 3 refl refl refl (num (fits h was .1 .1 .1 .0)) $
+        loads ! 19 13 0 refl refl refl (num (fits h was .start-fits)) $
+        loads ! 19 11 1 refl refl refl (num (fits h was .end-fits)) $
+        loads ! 19 9 3 refl refl refl (num (fits h was .calls-fit)) $
         assigns ! (addr ! (from ! (fld ! refl (hop ! (look-in ! 17 (sub ! 0 refl (whole !))) (stop !))))) (from ! (stop !)) (init ! 7 refl (tt, tt)) $
-        assigns ! (agg ! (and-then ! (load ! (from ! (stop !)) (look ! 7 refl)) (and-then ! (load ! (from ! (fld ! refl (stop !))) (look-in ! 17 (sub ! 1 refl (whole !)))) (no-more !)))) (from ! (stop !)) (init ! 5 refl (tt, (tt, (record { fits = room .0 }, tt)))) $
+        assigns ! (agg ! (and-then ! (load ! (from ! (stop !)) (look ! 7 refl)) (and-then ! (load ! (from ! (fld ! refl (stop !))) (look-in ! 17 (sub ! 1 refl (whole !)))) (no-more !))))
+        (from ! (stop !)) (init ! 5 refl (tt, (tt, (record { fits = room .0 }, tt)))) $
         move ! (1 ∷ []) $ drop ! $ move ! (22 ∷ 23 ∷ []) $ use2 W (raw (Callee 𝓤 H A at-mem run .pre to)) (goes (fits h was)) $
         calls-at ! fm (Callee 𝓤 H A at-mem run) known to (hands ! 13 refl (hands ! 11 refl (hands ! 9 refl (hands ! 5 refl (no-more !))))) (λ v.
         hears ! tt g.ended (g.clauses 𝓤 H A at-mem run) to (λ r zs. Said r (zs .1 .1 .1 .0)) (λ r zs. id⊢ 𝓤 _) (λ r zs e.
@@ -95,13 +132,16 @@ module _ {M : Type 1} (𝓤 : URA M) (H : Heap 𝓤) (A : Atoms 𝓤) (W : Given
         move ! (1 ∷ 2 ∷ []) $ peeks ! S.the-row (Is S.the-row) (shows 𝓤 H A S.the-row) r (v ∷ []) (λ is.
         -- [what a Step owns; the slice's token; the last list; the record's cell; the open borrow; obs; auth; _8; …; _7; …; _6; …; _5; …; _4; …; room for _3; …; _2; …; _1; …; room for _0; …]
         lands-step ! 17 r is (from ! (stop !)) refl $ move ! (3 ∷ []) $
-        stores ! 21 0 refl refl refl (look-in ! 17 (in-state ! 0 refl)) (num (changed r is .0)) $ stores ! 21 1 refl refl refl (look-in ! 17 (in-state ! 1 refl)) (num (changed r is .1 .0)) $
-        stores ! 21 3 refl refl refl (look-in ! 17 (in-state ! 3 refl)) (num (changed r is .1 .1 .1 .0)) $
+        stores ! 21 0 refl refl refl (look-in ! 17 (in-state ! 0 refl)) (num (changed r is .start-fits)) $
+        stores ! 21 1 refl refl refl (look-in ! 17 (in-state ! 1 refl)) (num (changed r is .end-fits)) $
+        stores ! 21 3 refl refl refl (look-in ! 17 (in-state ! 3 refl)) (num (changed r is .calls-fit)) $
         answers ! 17 23 r is refl refl (from ! (fld ! {τ = N′.mir} {d = 48} refl (stop !))) (from ! (stop !)) $
         move ! (1 ∷ []) $ drop ! $ move ! (0 ∷ 3 ∷ 4 ∷ 5 ∷ []) $
-        closes-stream ! tt (room-into h r) (made (room-into h r) (changed r is .0, (changed r is .1 .0, (fits h was .1 .1 .0, (changed r is .1 .1 .1 .0, fits h was .1 .1 .1 .1))))) b o $
+        closes-stream ! tt (room-into h r) (made (room-into h r) (kept (fits h was) r (changed r is))) b o $
         -- [obs; the borrow; the token; the slice's token; the last list; _8; …; _7; …; _6; …; _5; …; _4; …; _3; …; _2; …; _1; …; _0; …]
-        returns ! (look ! 21 {τ = N′.mir} refl) $ move ! (21 ∷ 22 ∷ 19 ∷ 20 ∷ 17 ∷ 18 ∷ 15 ∷ 16 ∷ 13 ∷ 14 ∷ 11 ∷ 12 ∷ 9 ∷ 10 ∷ 7 ∷ 8 ∷ 5 ∷ 6 ∷ []) $ gone ! $ gone ! $ gone ! $ gone ! $ gone ! $ gone ! $ gone ! $ gone ! $ gone ! $ free0 ! $
+        returns ! (look ! 21 {τ = N′.mir} refl) $
+        move ! (21 ∷ 22 ∷ 19 ∷ 20 ∷ 17 ∷ 18 ∷ 15 ∷ 16 ∷ 13 ∷ 14 ∷ 11 ∷ 12 ∷ 9 ∷ 10 ∷ 7 ∷ 8 ∷ 5 ∷ 6 ∷ []) $
+        gone ! $ gone ! $ gone ! $ gone ! $ gone ! $ gone ! $ gone ! $ gone ! $ gone ! $ free0 ! $
         keep ! (0 ∷ 1 ∷ 2 ∷ 3 ∷ 4 ∷ []) $ by ! (exits r (zs .1 .1 .1 .0) e l (answer-is r is))))))))))))))))
 
 pub make-room-spec : {M : Type 1} → stated.statement M

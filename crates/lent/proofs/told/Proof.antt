@@ -1,8 +1,14 @@
 -- `lent::told` meets its contract: a walk of its MIR, by hand, as `told_failed`'s. Start, end, the bytes read and the mark are passed to `told_on`; end, the bytes read
 -- and the mark are stored back.
 -- Assumes nothing.
-use Rattle.lent.proofs.Prelude.{_≡_, refl, ℕ, _<_, _^_, Bool, [], _∷_, List, URA, named, w64, Val, vptr, vint, vbool, SProp, ent, emp, id⊢, GName, Lft, Share, ftrue, flft, fobs, fbor, Memory, Routine, Heap, Calls, Loops, WpFn, Atoms, Fun, givenOf, tables, Given, ‵, raw, _⊛_, _$_, _∵_, !, qed, by, move, keep, drop, use0, split, join, fsplit, fsplit3, fjoin, fjoin3, feqI, suffices, frame, done, ⋆, look, init, stop, fld, from, no-more, returns, enter, alloc1, alloc0, params1, pass1, pass0, free0, look-in, Body, FmC, owns, Is, shows, mem, RefT, MutRef, ptr-vals, mut-tells, plain, owned, peeks, nothing, Contract, Triple, calls-at, onEntry, tripleOf, cited, says, Stays, stay-ref, walkOf, goes-ref, ends-at, stay-none, goes-none, yes, usize, uint-vals, uint-tells}
-use denote.Enum.Laws as EL
+use Rattle.lent.proofs.Prelude.{_≡_, refl, ℕ, _<_, _^_, Bool, [], _∷_, List}
+use Rattle.lent.proofs.Prelude.{URA, named, w64, Val, vptr, vint, vbool, SProp, ent, emp, id⊢, GName, Lft, Share, ftrue, flft}
+use Rattle.lent.proofs.Prelude.{Memory, Routine, Heap, Calls, Loops, WpFn, Atoms, Fun, givenOf, tables, FmC}
+use Rattle.lent.proofs.Prelude.{Item, Given, ‵, raw, _⊛_, _$_, _∵_, !, qed, by, move, keep, drop, use0, split, join, fsplit, fsplit3, fjoin, fjoin3}
+use Rattle.lent.proofs.Prelude.{feqI, suffices, frame, done, ⋆}
+use Rattle.lent.proofs.Prelude.{look, init, stop, fld, from, no-more, returns, enter, alloc1, alloc0, params1, pass1, pass0, free0, look-in}
+use Rattle.lent.proofs.Prelude.{owns, Is, shows, RefT, MutRef, ptr-vals, mut-tells, plain, peeks, nothing, Contract, Triple, calls-at, onEntry, tripleOf}
+use Rattle.lent.proofs.Prelude.{cited, says, Stays, stay-ref, walkOf, goes-ref, ends-at, stay-none, goes-none, yes, usize, uint-vals, uint-tells}
 use Rattle.stream.specs.Told.{toldOf}
 use Rattle.stream.specs.declared.Stream.{Stream}
 use Rattle.stream.specs.declared.Step.{Step}
@@ -15,7 +21,10 @@ use Rattle.lent.proofs.told_on.Symbol as g-def
 use Rattle.lent.proofs.told_on.Symbol.{name as #lent·told-on}
 use Rattle.lent.proofs.told_on.Met as g-thm
 use Rattle.lent.proofs.Apart.{told-parts, told-into, told-back}
-use Rattle.lent.proofs.Held.{answer-val, Fits, fits, made, num, changed, answer-is, opens-stream, closes-stream, loads, stores, lands-step, answers, in-state, hands, gone, adds-num, adds-flag}
+use Rattle.lent.proofs.Held.{answer-val, Fits, fits, made, num, changed, answer-is, lent-at, opens-stream, closes-stream, owns-answer, loads, stores}
+use Rattle.lent.proofs.Held.{lands-step, answers, in-state, hands, gone, adds-num, adds-flag}
+use Rattle.lent.proofs.Held.{answer-val, Fits, fits, made, num, changed, answer-is, lent-at, opens-stream, closes-stream, owns-answer, loads, stores}
+use Rattle.lent.proofs.Held.{lands-step, answers, in-state, hands, gone, adds-num, adds-flag}
 use Rattle.lent.proofs.Walk.{by-walk, hears}
 use Rattle.lent.proofs.told.Key.{name as #lent·told}
 use Rattle.lent.proofs.told as f
@@ -36,8 +45,15 @@ module _ {M : Type 1} (𝓤 : URA M) (H : Heap 𝓤) (A : Atoms 𝓤) (W : Given
   abbrev at : List Val × (List Val × Unit {0})
   at = (vptr b o ∷ [], (vint w64 n ∷ [], tt))
 
+  -- the contract of the function itself, and what it binds outside
+  abbrev Walked : Contract 𝓤
+  Walked = walkOf 𝓤 H A f.ended stayed (f.clauses 𝓤 H A at-mem run)
+
+  abbrev here : Walked .Ghost
+  here = (((κ, tt), (q, tt), tt, x, at), tt)
+
   abbrev Post : Val → SProp 𝓤
-  Post = walkOf 𝓤 H A f.ended stayed (f.clauses 𝓤 H A at-mem run) .post (((κ, tt), (q, tt), tt, x, at), tt)
+  Post = Walked .post here
 
   -- what the callee is passed
   abbrev args : ℕ × (ℕ × (ℕ × (Bool × (ℕ × Unit {0}))))
@@ -51,40 +67,65 @@ module _ {M : Type 1} (𝓤 : URA M) (H : Heap 𝓤) (A : Atoms 𝓤) (W : Given
 
   goes : Fits h → ent 𝓤 (emp 𝓤) (Callee 𝓤 H A at-mem run .pre to)
   goes p =
-      qed W [] ∵ nothing ! $ adds-num ! n n-fits $ adds-flag ! (h .error) $ adds-num ! (h .«bytes_read») (p .1 .1 .0) $ adds-num ! (h .end) (p .1 .0) $ adds-num ! (h .start) (p .0) $
+      qed W [] ∵ nothing ! $
+      adds-num ! n n-fits $
+      adds-flag ! (h .error) $
+      adds-num ! (h .«bytes_read») (p .bytes-fit) $
+      adds-num ! (h .end) (p .end-fits) $
+      adds-num ! (h .start) (p .start-fits) $
       nothing ! $ join ! $ frame ! $ done !
 
+  -- what is stored back fits
+  kept : Fits h → (r : Step) → Fits (r .state) → Fits (told-into h r)
+  kept p r c = record { start-fits = p .start-fits; end-fits = c .end-fits; bytes-fit = c .bytes-fit; calls-fit = p .calls-fit; messages-fit = p .messages-fit }
+
+  -- what is had in the end
+  abbrev Left : Step → List (Item 𝓤)
+  Left r = lent-at 𝓤 κ q b o γ (told-into h r) []
+
   exits : (r : Step) → r ≡ found → Is N.the-row (r .answer) (answer-val (r .answer) ∷ [])
-      → ent 𝓤 (⋆ 𝓤 H A (‵ (fobs γ (T.the-row .coded .code (told-into h r))) ∷ ‵ (fbor κ (Body (mem T.the-row) b o γ)) ∷ ‵ (flft κ q) ∷ [])) (Post (answer-val (r .answer)))
+      → ent 𝓤 (⋆ 𝓤 H A (Left r)) (Post (answer-val (r .answer)))
   exits r e is =
-      qed W (‵ (fobs γ (T.the-row .coded .code (told-into h r))) ∷ ‵ (fbor κ (Body (mem T.the-row) b o γ)) ∷ ‵ (flft κ q) ∷ []) ∵
-      suffices ! _ (ends-at 𝓤 H A f.ended stayed (f.clauses 𝓤 H A at-mem run) W (((κ, tt), (q, tt), tt, x, at), tt) (answer-val (r .answer)) (r .answer) (told-into h r, (tt, tt)) (tt, (tt, tt))) $
+      qed W (Left r) ∵
+      suffices ! _ (ends-at 𝓤 H A f.ended stayed (f.clauses 𝓤 H A at-mem run) W here (answer-val (r .answer)) (r .answer) (told-into h r, (tt, tt)) (tt, (tt, tt))) $
       says ! (told-back h n r e) $
-      nothing ! $ move ! (3 ∷ 0 ∷ []) $ join ! $ frame ! $ feqI ! (List Val) (vptr b o ∷ []) (vptr b o ∷ []) refl $ fjoin3 ! $ nothing ! $ adds-num ! n n-fits $ move ! (1 ∷ 0 ∷ []) $ fjoin ! $ frame ! $
-      owned ! N.the-row (Is N.the-row) (EL.makes N.the-type N′.the-plain 𝓤 H A) (r .answer) _ is $ done !
+      nothing ! $ move ! (3 ∷ 0 ∷ []) $ join ! $ frame ! $
+      feqI ! (List Val) (vptr b o ∷ []) (vptr b o ∷ []) refl $ fjoin3 ! $
+      nothing ! $ adds-num ! n n-fits $ move ! (1 ∷ 0 ∷ []) $ fjoin ! $ frame ! $
+      owns-answer ! (r .answer) is $ done !
 
   module _ (C : Calls 𝓤 H) (Λ : Loops 𝓤 H) (fm : FmC 𝓤 H (W .laws) C) (known : Triple 𝓤 (C #lent·told-on) (Callee 𝓤 H A at-mem run)) where
     walk : ent 𝓤 (onEntry 𝓤 H A f.signature (κ, tt) (q, tt) x at) (WpFn 𝓤 H C Λ code.function (vptr b o ∷ vint w64 n ∷ []) Post)
     walk =
-        qed W ((‵ (flft κ q) ⊛ ‵ ftrue) ∷ ‵ (owns (MutRef (named 0) κ T.the-row ∷ usize ∷ []) x at) ∷ []) ∵ split ! $ move ! (2 ∷ []) $ fsplit ! $ fsplit3 ! $ drop ! $ move ! (0 ∷ 1 ∷ 3 ∷ []) $
+        qed W ((‵ (flft κ q) ⊛ ‵ ftrue) ∷ ‵ (owns (MutRef (named 0) κ T.the-row ∷ usize ∷ []) x at) ∷ []) ∵
+        split ! $ move ! (2 ∷ []) $ fsplit ! $ fsplit3 ! $ drop ! $ move ! (0 ∷ 1 ∷ 3 ∷ []) $
         -- [obs; the borrow; the token; true; true]
         enter ! C Λ code.function (vptr b o ∷ vint w64 n ∷ []) _ $
-        alloc1 ! (λ l₀. alloc1 ! (λ l₁. alloc1 ! (λ l₂. alloc1 ! (λ l₃. alloc1 ! (λ l₄. alloc1 ! (λ l₅. alloc1 ! (λ l₆. alloc1 ! (λ l₇. alloc0 ! $ params1 ! $ pass1 ! (init ! 12 refl (tt, tt)) $ pass1 ! (init ! 10 refl (num n-fits)) $ pass0 ! $
+        alloc1 ! (λ l₀. alloc1 ! (λ l₁. alloc1 ! (λ l₂. alloc1 ! (λ l₃. alloc1 ! (λ l₄. alloc1 ! (λ l₅. alloc1 ! (λ l₆. alloc1 ! (λ l₇.
+        alloc0 ! $ params1 ! $ pass1 ! (init ! 12 refl (tt, tt)) $
+        pass1 ! (init ! 10 refl (num n-fits)) $ pass0 ! $
         move ! (16 ∷ 17 ∷ 18 ∷ []) $ opens-stream ! tt h b o (λ was.
         -- [the record's cell; what a Stream owns; the open borrow; obs; auth; room for _7; …; _6; …; _5; …; _4; …; _3; …; _2; …; _1; …; room for _0; …]
-        loads ! 17 11 0 refl refl refl (num (fits h was .0)) $ loads ! 17 9 1 refl refl refl (num (fits h was .1 .0)) $ loads ! 17 7 2 refl refl refl (num (fits h was .1 .1 .0)) $ loads ! 17 5 5 refl refl refl (tt, tt) $
+        loads ! 17 11 0 refl refl refl (num (fits h was .start-fits)) $
+        loads ! 17 9 1 refl refl refl (num (fits h was .end-fits)) $
+        loads ! 17 7 2 refl refl refl (num (fits h was .bytes-fit)) $
+        loads ! 17 5 5 refl refl refl (tt, tt) $
         move ! (1 ∷ []) $ drop ! $ use0 W (raw (Callee 𝓤 H A at-mem run .pre to)) (goes (fits h was)) $
         calls-at ! fm (Callee 𝓤 H A at-mem run) known to (hands ! 11 refl (hands ! 9 refl (hands ! 7 refl (hands ! 5 refl (hands ! 15 refl (no-more !)))))) (λ v.
         hears ! tt g.ended (g.clauses 𝓤 H A at-mem run) to (λ r _. r ≡ found) (λ r _. id⊢ 𝓤 _) (λ r _ e. move ! (1 ∷ 2 ∷ []) $ drop ! $ drop ! $
         peeks ! S.the-row (Is S.the-row) (shows 𝓤 H A S.the-row) r (v ∷ []) (λ is.
         -- [what a Step owns; the record's cell; the open borrow; obs; auth; _7; …; _6; …; _5; …; _4; …; room for _3; …; _2; …; _1; …; room for _0; …]
         lands-step ! 13 r is (from ! (stop !)) refl $ move ! (1 ∷ []) $
-        stores ! 17 1 refl refl refl (look-in ! 13 (in-state ! 1 refl)) (num (changed r is .1 .0)) $ stores ! 17 2 refl refl refl (look-in ! 13 (in-state ! 2 refl)) (num (changed r is .1 .1 .0)) $
+        stores ! 17 1 refl refl refl (look-in ! 13 (in-state ! 1 refl)) (num (changed r is .end-fits)) $
+        stores ! 17 2 refl refl refl (look-in ! 13 (in-state ! 2 refl)) (num (changed r is .bytes-fit)) $
         stores ! 17 5 refl refl refl (look-in ! 13 (in-state ! 5 refl)) (tt, tt) $
         answers ! 13 19 r is refl refl (from ! (fld ! {τ = N′.mir} {d = 48} refl (stop !))) (from ! (stop !)) $
-        move ! (1 ∷ []) $ drop ! $ closes-stream ! tt (told-into h r) (made (told-into h r) (fits h was .0, (changed r is .1 .0, (changed r is .1 .1 .0, fits h was .1 .1 .1)))) b o $
+        move ! (1 ∷ []) $ drop ! $
+        closes-stream ! tt (told-into h r) (made (told-into h r) (kept (fits h was) r (changed r is))) b o $
         -- [obs; the borrow; the token; _7; …; _6; …; _5; …; _4; …; _3; …; _2; …; _1; …; _0; …]
-        returns ! (look ! 17 {τ = N′.mir} refl) $ move ! (17 ∷ 18 ∷ 15 ∷ 16 ∷ 13 ∷ 14 ∷ 11 ∷ 12 ∷ 9 ∷ 10 ∷ 7 ∷ 8 ∷ 5 ∷ 6 ∷ 3 ∷ 4 ∷ []) $ gone ! $ gone ! $ gone ! $ gone ! $ gone ! $ gone ! $ gone ! $ gone ! $ free0 ! $
+        returns ! (look ! 17 {τ = N′.mir} refl) $
+        move ! (17 ∷ 18 ∷ 15 ∷ 16 ∷ 13 ∷ 14 ∷ 11 ∷ 12 ∷ 9 ∷ 10 ∷ 7 ∷ 8 ∷ 5 ∷ 6 ∷ 3 ∷ 4 ∷ []) $
+        gone ! $ gone ! $ gone ! $ gone ! $ gone ! $ gone ! $ gone ! $ gone ! $ free0 ! $
         keep ! (0 ∷ 1 ∷ 2 ∷ []) $ by ! (exits r e (answer-is r is))))))))))))))
 
 pub told-spec : {M : Type 1} → stated.statement M

@@ -1,8 +1,14 @@
 -- `lent::told_failed` meets its contract: a walk of its MIR, by hand. The borrow is opened, start, end and the mark are loaded and passed to `failed_on`, and the
 -- mark of what comes back is stored; the borrow is closed at the record with that mark, which is what the definition makes of the whole record (`failed-back`).
 -- Assumes nothing.
-use Rattle.lent.proofs.Prelude.{_≡_, refl, ℕ, Bool, [], _∷_, List, URA, named, w64, Val, vptr, vint, vbool, SProp, ent, emp, id⊢, GName, Lft, Share, ftrue, flft, fobs, fbor, Memory, Routine, Heap, Calls, Loops, WpFn, Atoms, Fun, givenOf, tables, Given, ‵, raw, _⊛_, _$_, _∵_, !, qed, by, move, keep, drop, use0, split, join, fsplit, fsplit3, fjoin, fjoin3, feqI, suffices, frame, done, ⋆, look, init, stop, fld, from, no-more, returns, enter, alloc1, alloc0, params1, pass1, pass0, free0, look-in, Body, FmC, owns, Is, shows, mem, RefT, MutRef, ptr-vals, mut-tells, plain, owned, peeks, nothing, Contract, Triple, calls-at, onEntry, tripleOf, cited, says, Stays, stay-ref, walkOf, goes-ref, ends-at}
-use denote.Enum.Laws as EL
+use Rattle.lent.proofs.Prelude.{_≡_, refl, ℕ, Bool, [], _∷_, List}
+use Rattle.lent.proofs.Prelude.{URA, named, w64, Val, vptr, vint, vbool, SProp, ent, emp, id⊢, GName, Lft, Share, ftrue, flft}
+use Rattle.lent.proofs.Prelude.{Memory, Routine, Heap, Calls, Loops, WpFn, Atoms, Fun, givenOf, tables, FmC}
+use Rattle.lent.proofs.Prelude.{Item, Given, ‵, raw, _⊛_, _$_, _∵_, !, qed, by, move, keep, drop, use0, split, join, fsplit, fsplit3, fjoin, fjoin3}
+use Rattle.lent.proofs.Prelude.{feqI, suffices, frame, done, ⋆}
+use Rattle.lent.proofs.Prelude.{look, init, stop, fld, from, no-more, returns, enter, alloc1, alloc0, params1, pass1, pass0, free0, look-in}
+use Rattle.lent.proofs.Prelude.{owns, Is, shows, RefT, MutRef, ptr-vals, mut-tells, plain, peeks, nothing, Contract, Triple, calls-at, onEntry, tripleOf}
+use Rattle.lent.proofs.Prelude.{cited, says, Stays, stay-ref, walkOf, goes-ref, ends-at}
 use Rattle.stream.specs.Told.{failedOf}
 use Rattle.stream.specs.declared.Stream.{Stream}
 use Rattle.stream.specs.declared.Step.{Step}
@@ -15,7 +21,10 @@ use Rattle.lent.proofs.failed_on.Symbol as g-def
 use Rattle.lent.proofs.failed_on.Symbol.{name as #lent·failed-on}
 use Rattle.lent.proofs.failed_on.Met as g-thm
 use Rattle.lent.proofs.Apart.{failed-parts, failed-into, failed-back}
-use Rattle.lent.proofs.Held.{answer-val, Fits, fits, made, num, answer-is, opens-stream, closes-stream, loads, stores, lands-step, answers, in-state, hands, gone, adds-num, adds-flag}
+use Rattle.lent.proofs.Held.{answer-val, Fits, fits, made, num, answer-is, lent-at, opens-stream, closes-stream, owns-answer, loads, stores}
+use Rattle.lent.proofs.Held.{lands-step, answers, in-state, hands, gone, adds-num, adds-flag}
+use Rattle.lent.proofs.Held.{answer-val, Fits, fits, made, num, answer-is, lent-at, opens-stream, closes-stream, owns-answer, loads, stores}
+use Rattle.lent.proofs.Held.{lands-step, answers, in-state, hands, gone, adds-num, adds-flag}
 use Rattle.lent.proofs.Walk.{by-walk, hears}
 use Rattle.lent.proofs.told_failed.Key.{name as #lent·told-failed}
 use Rattle.lent.proofs.told_failed as f
@@ -36,8 +45,15 @@ module _ {M : Type 1} (𝓤 : URA M) (H : Heap 𝓤) (A : Atoms 𝓤) (W : Given
   abbrev at : List Val × Unit {0}
   at = (vptr b o ∷ [], tt)
 
+  -- the contract of the function itself, and what it binds outside
+  abbrev Walked : Contract 𝓤
+  Walked = walkOf 𝓤 H A f.ended stayed (f.clauses 𝓤 H A at-mem run)
+
+  abbrev here : Walked .Ghost
+  here = (((κ, tt), (q, tt), tt, x, at), tt)
+
   abbrev Post : Val → SProp 𝓤
-  Post = walkOf 𝓤 H A f.ended stayed (f.clauses 𝓤 H A at-mem run) .post (((κ, tt), (q, tt), tt, x, at), tt)
+  Post = Walked .post here
 
   -- what the callee is passed
   abbrev args : ℕ × (ℕ × (Bool × Unit {0}))
@@ -50,27 +66,46 @@ module _ {M : Type 1} (𝓤 : URA M) (H : Heap 𝓤) (A : Atoms 𝓤) (W : Given
   found = failedOf (failed-parts h)
 
   goes : Fits h → ent 𝓤 (emp 𝓤) (Callee 𝓤 H A at-mem run .pre to)
-  goes p = qed W [] ∵ nothing ! $ adds-flag ! (h .error) $ adds-num ! (h .end) (p .1 .0) $ adds-num ! (h .start) (p .0) $ nothing ! $ join ! $ frame ! $ done !
+  goes p =
+      qed W [] ∵ nothing ! $
+      adds-flag ! (h .error) $
+      adds-num ! (h .end) (p .end-fits) $
+      adds-num ! (h .start) (p .start-fits) $
+      nothing ! $ join ! $ frame ! $ done !
+
+  -- what is stored back fits
+  kept : Fits h → (r : Step) → Fits (failed-into h r)
+  kept p r = record { start-fits = p .start-fits; end-fits = p .end-fits; bytes-fit = p .bytes-fit; calls-fit = p .calls-fit; messages-fit = p .messages-fit }
+
+  -- what is had in the end
+  abbrev Left : Step → List (Item 𝓤)
+  Left r = lent-at 𝓤 κ q b o γ (failed-into h r) []
 
   exits : (r : Step) → r ≡ found → Is N.the-row (r .answer) (answer-val (r .answer) ∷ [])
-      → ent 𝓤 (⋆ 𝓤 H A (‵ (fobs γ (T.the-row .coded .code (failed-into h r))) ∷ ‵ (fbor κ (Body (mem T.the-row) b o γ)) ∷ ‵ (flft κ q) ∷ [])) (Post (answer-val (r .answer)))
+      → ent 𝓤 (⋆ 𝓤 H A (Left r)) (Post (answer-val (r .answer)))
   exits r e is =
-      qed W (‵ (fobs γ (T.the-row .coded .code (failed-into h r))) ∷ ‵ (fbor κ (Body (mem T.the-row) b o γ)) ∷ ‵ (flft κ q) ∷ []) ∵
-      suffices ! _ (ends-at 𝓤 H A f.ended stayed (f.clauses 𝓤 H A at-mem run) W (((κ, tt), (q, tt), tt, x, at), tt) (answer-val (r .answer)) (r .answer) (failed-into h r, tt) (tt, tt)) $
+      qed W (Left r) ∵
+      suffices ! _ (ends-at 𝓤 H A f.ended stayed (f.clauses 𝓤 H A at-mem run) W here (answer-val (r .answer)) (r .answer) (failed-into h r, tt) (tt, tt)) $
       says ! (failed-back h r e) $
-      nothing ! $ move ! (3 ∷ 0 ∷ []) $ join ! $ frame ! $ feqI ! (List Val) (vptr b o ∷ []) (vptr b o ∷ []) refl $ fjoin3 ! $ nothing ! $ move ! (1 ∷ 0 ∷ []) $ fjoin ! $ frame ! $
-      owned ! N.the-row (Is N.the-row) (EL.makes N.the-type N′.the-plain 𝓤 H A) (r .answer) _ is $ done !
+      nothing ! $ move ! (3 ∷ 0 ∷ []) $ join ! $ frame ! $
+      feqI ! (List Val) (vptr b o ∷ []) (vptr b o ∷ []) refl $ fjoin3 ! $
+      nothing ! $ move ! (1 ∷ 0 ∷ []) $ fjoin ! $ frame ! $
+      owns-answer ! (r .answer) is $ done !
 
   module _ (C : Calls 𝓤 H) (Λ : Loops 𝓤 H) (fm : FmC 𝓤 H (W .laws) C) (known : Triple 𝓤 (C #lent·failed-on) (Callee 𝓤 H A at-mem run)) where
     walk : ent 𝓤 (onEntry 𝓤 H A f.signature (κ, tt) (q, tt) x at) (WpFn 𝓤 H C Λ code.function (vptr b o ∷ []) Post)
     walk =
-        qed W ((‵ (flft κ q) ⊛ ‵ ftrue) ∷ ‵ (owns (MutRef (named 0) κ T.the-row ∷ []) x at) ∷ []) ∵ split ! $ move ! (2 ∷ []) $ fsplit ! $ fsplit3 ! $ drop ! $ move ! (0 ∷ 1 ∷ 3 ∷ []) $
+        qed W ((‵ (flft κ q) ⊛ ‵ ftrue) ∷ ‵ (owns (MutRef (named 0) κ T.the-row ∷ []) x at) ∷ []) ∵
+        split ! $ move ! (2 ∷ []) $ fsplit ! $ fsplit3 ! $ drop ! $ move ! (0 ∷ 1 ∷ 3 ∷ []) $
         -- [obs; the borrow; the token; true; true]
         enter ! C Λ code.function (vptr b o ∷ []) _ $
-        alloc1 ! (λ l₀. alloc1 ! (λ l₁. alloc1 ! (λ l₂. alloc1 ! (λ l₃. alloc1 ! (λ l₄. alloc1 ! (λ l₅. alloc0 ! $ params1 ! $ pass1 ! (init ! 8 refl (tt, tt)) $ pass0 ! $
+        alloc1 ! (λ l₀. alloc1 ! (λ l₁. alloc1 ! (λ l₂. alloc1 ! (λ l₃. alloc1 ! (λ l₄. alloc1 ! (λ l₅.
+        alloc0 ! $ params1 ! $ pass1 ! (init ! 8 refl (tt, tt)) $ pass0 ! $
         move ! (12 ∷ 13 ∷ 14 ∷ []) $ opens-stream ! tt h b o (λ was.
         -- [the record's cell; what a Stream owns; the open borrow; obs; auth; room for _5; …; _4; …; _3; …; _2; …; _1; …; room for _0; …]
-        loads ! 13 9 0 refl refl refl (num (fits h was .0)) $ loads ! 13 7 1 refl refl refl (num (fits h was .1 .0)) $ loads ! 13 5 5 refl refl refl (tt, tt) $
+        loads ! 13 9 0 refl refl refl (num (fits h was .start-fits)) $
+        loads ! 13 7 1 refl refl refl (num (fits h was .end-fits)) $
+        loads ! 13 5 5 refl refl refl (tt, tt) $
         move ! (1 ∷ []) $ drop ! $ use0 W (raw (Callee 𝓤 H A at-mem run .pre to)) (goes (fits h was)) $
         calls-at ! fm (Callee 𝓤 H A at-mem run) known to (hands ! 9 refl (hands ! 7 refl (hands ! 5 refl (no-more !)))) (λ v.
         hears ! tt g.ended (g.clauses 𝓤 H A at-mem run) to (λ r _. r ≡ found) (λ r _. id⊢ 𝓤 _) (λ r _ e. move ! (1 ∷ 2 ∷ []) $ drop ! $ drop ! $
@@ -79,9 +114,12 @@ module _ {M : Type 1} (𝓤 : URA M) (H : Heap 𝓤) (A : Atoms 𝓤) (W : Given
         lands-step ! 11 r is (from ! (stop !)) refl $ move ! (1 ∷ []) $
         stores ! 13 5 refl refl refl (look-in ! 11 (in-state ! 5 refl)) (tt, tt) $
         answers ! 11 15 r is refl refl (from ! (fld ! {τ = N′.mir} {d = 48} refl (stop !))) (from ! (stop !)) $
-        move ! (1 ∷ []) $ drop ! $ closes-stream ! tt (failed-into h r) (made (failed-into h r) (fits h was)) b o $
+        move ! (1 ∷ []) $ drop ! $
+        closes-stream ! tt (failed-into h r) (made (failed-into h r) (kept (fits h was) r)) b o $
         -- [obs; the borrow; the token; _5; …; _4; …; _3; …; _2; …; _1; …; _0; …]
-        returns ! (look ! 13 {τ = N′.mir} refl) $ move ! (13 ∷ 14 ∷ 11 ∷ 12 ∷ 9 ∷ 10 ∷ 7 ∷ 8 ∷ 5 ∷ 6 ∷ 3 ∷ 4 ∷ []) $ gone ! $ gone ! $ gone ! $ gone ! $ gone ! $ gone ! $ free0 ! $
+        returns ! (look ! 13 {τ = N′.mir} refl) $
+        move ! (13 ∷ 14 ∷ 11 ∷ 12 ∷ 9 ∷ 10 ∷ 7 ∷ 8 ∷ 5 ∷ 6 ∷ 3 ∷ 4 ∷ []) $
+        gone ! $ gone ! $ gone ! $ gone ! $ gone ! $ gone ! $ free0 ! $
         keep ! (0 ∷ 1 ∷ 2 ∷ []) $ by ! (exits r e (answer-is r is))))))))))))
 
 pub told-failed-spec : {M : Type 1} → stated.statement M
