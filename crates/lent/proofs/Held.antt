@@ -86,7 +86,10 @@ made s p =
     LL.owes T.the-type T′.the-laws s
     ((refl, p .start-fits), ((refl, p .end-fits), ((refl, p .bytes-fit), ((refl, p .calls-fit), ((refl, p .messages-fit), (refl, tt))))))
 
--- a number that fits is a value of its type
+-- a number's machine value; and where it fits, it is a value of its type
+abbrev pub num-val : ℕ → List Val
+num-val n = vint w64 n ∷ []
+
 pub num : {n : ℕ} → n < 2 ^ 64 → Holds (hasTy (tyInt w64) (vint w64 n)) × WT (vint w64 n)
 num f = (tt, record { fits = f })
 
@@ -159,7 +162,8 @@ module _ {M : Type 1} {𝓤 : URA M} {H : Heap 𝓤} {A : Atoms 𝓤} {K : Type 
       fjoin t $ fpack t (List Val) (λ us. fsep (cellAt fullShare (T.the-row .mir) us b o) (T.the-row .own h us)) (state-val h ∷ []) $ s)
 
   -- and as it comes back
-  pub rises-stream : K → (h : Stream) (b o : ℕ) → (Is T.the-row h (state-val h ∷ []) → Seq K W (held-at 𝓤 b o h Γ) G) → Seq K W (‵ (mem T.the-row .lies h b o) ∷ Γ) G
+  pub rises-stream : K → (h : Stream) (b o : ℕ)
+      → (Is T.the-row h (state-val h ∷ []) → Seq K W (held-at 𝓤 b o h Γ) G) → Seq K W (‵ (mem T.the-row .lies h b o) ∷ Γ) G
   unfolding partOf
   rises-stream t h b o k = fpick t (λ vs. fsplit t $ spells-stream t h vs b o k)
 

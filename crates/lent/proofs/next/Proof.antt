@@ -2,7 +2,7 @@
 -- messages and the mark are stored back.
 -- Assumes nothing.
 use Rattle.lent.proofs.Prelude.{_≡_, refl, ℕ, Bool, [], _∷_, List, length}
-use Rattle.lent.proofs.Prelude.{URA, named, w64, Val, vptr, vint, vbool, SProp, ent, id⊢, GName, Lft, Share, ftrue, flft, Fml}
+use Rattle.lent.proofs.Prelude.{URA, named, Val, vptr, vbool, SProp, ent, id⊢, GName, Lft, Share, ftrue, flft, Fml}
 use Rattle.lent.proofs.Prelude.{Memory, Routine, Heap, Calls, Loops, WpFn, Atoms, Fun, givenOf, tables, FmC}
 use Rattle.lent.proofs.Prelude.{Item, Given, ‵, raw, _⊛_, _$_, _∵_, !, qed, by, move, keep, drop, use1, use2, split, join, fsplit, fsplit3, fjoin}
 use Rattle.lent.proofs.Prelude.{fjoin3, feqI, suffices, frame, done, ⋆}
@@ -22,10 +22,14 @@ use Rattle.lent.proofs.next_on.Symbol as g-def
 use Rattle.lent.proofs.next_on.Symbol.{name as #lent·next-on}
 use Rattle.lent.proofs.next_on.Met as g-thm
 use Rattle.lent.proofs.Apart.{next-parts, next-into, next-back}
-use Rattle.lent.proofs.Held.{answer-val, Fits, fits, made, num, changed, answer-is, lent-at, opens-stream, closes-stream, owns-answer, loads, stores}
-use Rattle.lent.proofs.Held.{lands-step, answers, in-state, hands, gone, adds-num, adds-flag}
-use Rattle.lent.proofs.Held.{answer-val, Fits, fits, made, num, changed, answer-is, lent-at, opens-stream, closes-stream, owns-answer, loads, stores}
-use Rattle.lent.proofs.Held.{lands-step, answers, in-state, hands, gone, adds-num, adds-flag}
+use Rattle.lent.proofs.Held.{answer-val, Fits, fits, made, num-val, num, changed, answer-is, lent-at, opens-stream, closes-stream, owns-answer, loads}
+use Rattle.lent.proofs.Held.{stores, lands-step, answers, in-state, hands, gone, adds-num, adds-flag}
+use Rattle.lent.proofs.Held.{answer-val, Fits, fits, made, num-val, num, changed, answer-is, lent-at, opens-stream, closes-stream, owns-answer, loads}
+use Rattle.lent.proofs.Held.{stores, lands-step, answers, in-state, hands, gone, adds-num, adds-flag}
+use Rattle.lent.proofs.Held.{answer-val, Fits, fits, made, num-val, num, changed, answer-is, lent-at, opens-stream, closes-stream, owns-answer, loads}
+use Rattle.lent.proofs.Held.{stores, lands-step, answers, in-state, hands, gone, adds-num, adds-flag}
+use Rattle.lent.proofs.Held.{answer-val, Fits, fits, made, num-val, num, changed, answer-is, lent-at, opens-stream, closes-stream, owns-answer, loads}
+use Rattle.lent.proofs.Held.{stores, lands-step, answers, in-state, hands, gone, adds-num, adds-flag}
 use Rattle.lent.proofs.Walk.{by-walk, hears}
 use Rattle.lent.proofs.next.Key.{name as #lent·next}
 use Rattle.lent.proofs.next as f
@@ -35,115 +39,120 @@ use Rattle.lent.proofs.next.Code as code
 abbrev stayed : Stays (f.ended .signature .params) (f.ended .kept)
 stayed = (stay-ref (0 ∷ []) tt (plain (λ _. T.the-row)), (stay-none-slice (1 ∷ []) tt (plain (λ _. u8)) yes, tt))
 
--- the contract that the proof cites
-abbrev Callee : {M : Type 1} (𝓤 : URA M) (H : Heap 𝓤) (A : Atoms 𝓤) (mem : Memory → SProp 𝓤) (run : Routine → Fun 𝓤) → Contract 𝓤
-Callee 𝓤 H A mem run = tripleOf 𝓤 H A g.signature (g.spec 𝓤 H A mem run)
+module _ {M : Type 1} (𝓤 : URA M) (H : Heap 𝓤) (A : Atoms 𝓤) (at-mem : Memory → SProp 𝓤) (run : Routine → Fun 𝓤) where
+  -- the contract that the proof cites, and the function's own
+  abbrev Callee : Contract 𝓤
+  Callee = tripleOf 𝓤 H A g.signature (g.spec 𝓤 H A at-mem run)
 
-module _ {M : Type 1} (𝓤 : URA M) (H : Heap 𝓤) (A : Atoms 𝓤) (W : Given 𝓤 H A) (at-mem : Memory → SProp 𝓤) (run : Routine → Fun 𝓤) (κ κ′ : Lft) (q q′ : Share) (b o : ℕ) (γ : GName) (h : Stream) (s : RefT (List ℕ)) where
-  abbrev x : RefT Stream × (RefT (List ℕ) × Unit {0})
-  x = (record { ptr = (b, o); name = γ; now = h }, (s, tt))
-
-  -- the slice's machine value
-  abbrev sv : Val
-  sv = sliceVal (s .ptr) (length (s .now))
-
-  abbrev at : List Val × (List Val × Unit {0})
-  at = (vptr b o ∷ [], (sv ∷ [], tt))
-
-  abbrev Own : Fml
-  Own = ShrSlice (named 1) κ′ u8 .own s (sv ∷ [])
-
-  -- the contract of the function itself, and what it binds outside
   abbrev Walked : Contract 𝓤
   Walked = walkOf 𝓤 H A f.ended stayed (f.clauses 𝓤 H A at-mem run)
 
-  abbrev here : Walked .Ghost
-  here = (((κ, (κ′, tt)), (q, (q′, tt)), tt, x, at), tt)
+  module _ (W : Given 𝓤 H A) (κ κ′ : Lft) (q q′ : Share) (b o : ℕ) (γ : GName) (h : Stream) (s : RefT (List ℕ)) where
+    abbrev x : RefT Stream × (RefT (List ℕ) × Unit {0})
+    x = (record { ptr = (b, o); name = γ; now = h }, (s, tt))
 
-  abbrev Post : Val → SProp 𝓤
-  Post = Walked .post here
+    -- the slice's machine value
+    abbrev sv : Val
+    sv = sliceVal (s .ptr) (length (s .now))
 
-  -- what the callee is passed
-  abbrev args : ℕ × (ℕ × (ℕ × (Bool × (RefT (List ℕ) × Unit {0}))))
-  args = (h .start, (h .end, (h .messages, (h .error, (s, tt)))))
+    abbrev at : List Val × (List Val × Unit {0})
+    at = (vptr b o ∷ [], (sv ∷ [], tt))
 
-  abbrev to : Callee 𝓤 H A at-mem run .Ghost
-  to = (((κ′, tt), (q′, tt), tt, args, (vint w64 (h .start) ∷ [], (vint w64 (h .end) ∷ [], (vint w64 (h .messages) ∷ [], (vbool (h .error) ∷ [], (sv ∷ [], tt)))))), tt)
+    abbrev Own : Fml
+    Own = ShrSlice (named 1) κ′ u8 .own s (sv ∷ [])
 
-  abbrev found : Step
-  found = nextOf (next-parts h) (s .now)
+    -- what the function's own contract binds outside
+    abbrev here : Walked .Ghost
+    here = (((κ, (κ′, tt)), (q, (q′, tt)), tt, x, at), tt)
 
-  goes : Fits h → ent 𝓤 (⋆ 𝓤 H A ((‵ (flft κ′ q′) ⊛ ‵ ftrue) ∷ ‵ Own ∷ [])) (Callee 𝓤 H A at-mem run .pre to)
-  goes p =
-      qed W ((‵ (flft κ′ q′) ⊛ ‵ ftrue) ∷ ‵ Own ∷ []) ∵ nothing ! $ move ! (2 ∷ 0 ∷ []) $ fjoin ! $
-      adds-flag ! (h .error) $
-      adds-num ! (h .messages) (p .messages-fit) $
-      adds-num ! (h .end) (p .end-fits) $
-      adds-num ! (h .start) (p .start-fits) $
-      move ! (1 ∷ 0 ∷ []) $ join ! $ frame ! $ done !
+    abbrev Post : Val → SProp 𝓤
+    Post = Walked .post here
 
-  -- what is stored back fits
-  kept : Fits h → (r : Step) → Fits (r .state) → Fits (next-into h r)
-  kept p r c = record { start-fits = c .start-fits; end-fits = p .end-fits; bytes-fit = p .bytes-fit; calls-fit = p .calls-fit; messages-fit = c .messages-fit }
+    -- what the callee is passed
+    abbrev args : ℕ × (ℕ × (ℕ × (Bool × (RefT (List ℕ) × Unit {0}))))
+    args = (h .start, (h .end, (h .messages, (h .error, (s, tt)))))
 
-  -- what is had in the end
-  abbrev Left : Step → List (Item 𝓤)
-  Left r = lent-at 𝓤 κ q b o γ (next-into h r) ((‵ (flft κ′ q′) ⊛ ‵ ftrue) ∷ ‵ Own ∷ [])
+    abbrev to : Callee .Ghost
+    to = (((κ′, tt), (q′, tt), tt, args, (num-val (h .start), (num-val (h .end), (num-val (h .messages), (vbool (h .error) ∷ [], (sv ∷ [], tt)))))), tt)
 
-  exits : (r : Step) → r ≡ found → Is N.the-row (r .answer) (answer-val (r .answer) ∷ [])
-      → ent 𝓤 (⋆ 𝓤 H A (Left r)) (Post (answer-val (r .answer)))
-  exits r e is =
-      qed W (Left r) ∵
-      suffices ! _ (ends-at 𝓤 H A f.ended stayed (f.clauses 𝓤 H A at-mem run) W here (answer-val (r .answer)) (r .answer) (next-into h r, (tt, tt)) (tt, (tt, tt))) $
-      says ! (next-back h (s .now) r e) $
-      move ! (2 ∷ 3 ∷ []) $ join ! $ frame ! $
-      feqI ! (List Val) (vptr b o ∷ []) (vptr b o ∷ []) refl $ fjoin3 ! $
-      nothing ! $ move ! (2 ∷ 0 ∷ []) $ fjoin ! $ move ! (1 ∷ 0 ∷ []) $ fjoin ! $ frame ! $
-      owns-answer ! (r .answer) is $ done !
+    abbrev found : Step
+    found = nextOf (next-parts h) (s .now)
 
-  module _ (C : Calls 𝓤 H) (Λ : Loops 𝓤 H) (fm : FmC 𝓤 H (W .laws) C) (known : Triple 𝓤 (C #lent·next-on) (Callee 𝓤 H A at-mem run)) where
-    walk : Is (ShrSlice (named 1) κ′ u8) s (sv ∷ []) → ent 𝓤 (onEntry 𝓤 H A f.signature (κ, (κ′, tt)) (q, (q′, tt)) x at) (WpFn 𝓤 H C Λ code.function (vptr b o ∷ sv ∷ []) Post)
-    walk p =
-        qed W ((‵ (flft κ q) ⊛ ‵ (flft κ′ q′) ⊛ ‵ ftrue) ∷ ‵ (owns (MutRef (named 0) κ T.the-row ∷ ShrSlice (named 1) κ′ u8 ∷ []) x at) ∷ []) ∵
-        split ! $ move ! (2 ∷ []) $ fsplit ! $ fsplit3 ! $ drop ! $
-        move ! (2 ∷ []) $ fsplit ! $ use1 W (‵ Own ⊛ ‵ Own) (shr-slice-copy 𝓤 H A W (named 1) κ′ u8 .twice s (sv ∷ [])) $ split ! $ move ! (3 ∷ 4 ∷ 5 ∷ 6 ∷ 0 ∷ 1 ∷ []) $
-        -- [obs; the borrow; the token; the slice's token; what buf owns, twice; true]
-        enter ! C Λ code.function (vptr b o ∷ sv ∷ []) _ $
-        alloc1 ! (λ l₀. alloc1 ! (λ l₁. alloc1 ! (λ l₂. alloc1 ! (λ l₃. alloc1 ! (λ l₄. alloc1 ! (λ l₅. alloc1 ! (λ l₆. alloc1 ! (λ l₇.
-        alloc0 ! $ params1 ! $ pass1 ! (init ! 12 refl (tt, tt)) $
-        pass1 ! (init ! 10 refl (shr-slice-lawful 𝓤 H A W (named 1) κ′ u8 .typed s (sv ∷ []) p .0)) $ pass0 ! $
-        move ! (16 ∷ 17 ∷ 18 ∷ []) $ opens-stream ! tt h b o (λ was.
-        -- [the record's cell; what a Stream owns; the open borrow; obs; auth; room for _7; …; _6; …; _5; …; _4; …; _3; …; _2; …; _1; …; room for _0; …; the slice's token; what buf owns, twice]
-        loads ! 17 11 0 refl refl refl (num (fits h was .start-fits)) $
-        loads ! 17 9 1 refl refl refl (num (fits h was .end-fits)) $
-        loads ! 17 7 4 refl refl refl (num (fits h was .messages-fit)) $
-        loads ! 17 5 5 refl refl refl (tt, tt) $
-        move ! (1 ∷ []) $ drop ! $ move ! (20 ∷ 21 ∷ []) $ use2 W (raw (Callee 𝓤 H A at-mem run .pre to)) (goes (fits h was)) $
-        calls-at ! fm (Callee 𝓤 H A at-mem run) known to (hands ! 11 refl (hands ! 9 refl (hands ! 7 refl (hands ! 5 refl (hands ! 15 refl (no-more !)))))) (λ v.
-        hears ! tt g.ended (g.clauses 𝓤 H A at-mem run) to (λ r _. r ≡ found) (λ r _. id⊢ 𝓤 _) (λ r _ e. move ! (2 ∷ []) $ drop ! $
-        peeks ! S.the-row (Is S.the-row) (shows 𝓤 H A S.the-row) r (v ∷ []) (λ is.
-        -- [what a Step owns; the slice's token; the record's cell; the open borrow; obs; auth; _7; …; _6; …; _5; …; _4; …; room for _3; …; _2; …; _1; …; room for _0; …; what buf owns]
-        lands-step ! 14 r is (from ! (stop !)) refl $ move ! (2 ∷ []) $
-        stores ! 18 0 refl refl refl (look-in ! 14 (in-state ! 0 refl)) (num (changed r is .start-fits)) $
-        stores ! 18 4 refl refl refl (look-in ! 14 (in-state ! 4 refl)) (num (changed r is .messages-fit)) $
-        stores ! 18 5 refl refl refl (look-in ! 14 (in-state ! 5 refl)) (tt, tt) $
-        answers ! 14 20 r is refl refl (from ! (fld ! {τ = N′.mir} {d = 48} refl (stop !))) (from ! (stop !)) $
-        move ! (1 ∷ []) $ drop ! $ move ! (0 ∷ 2 ∷ 3 ∷ 4 ∷ []) $
-        closes-stream ! tt (next-into h r) (made (next-into h r) (kept (fits h was) r (changed r is))) b o $
-        -- [obs; the borrow; the token; the slice's token; _7; …; _6; …; _5; …; _4; …; _3; …; _2; …; _1; …; _0; …; what buf owns]
-        returns ! (look ! 18 {τ = N′.mir} refl) $
-        move ! (18 ∷ 19 ∷ 16 ∷ 17 ∷ 14 ∷ 15 ∷ 12 ∷ 13 ∷ 10 ∷ 11 ∷ 8 ∷ 9 ∷ 6 ∷ 7 ∷ 4 ∷ 5 ∷ []) $
-        gone ! $ gone ! $ gone ! $ gone ! $ gone ! $ gone ! $ gone ! $ gone ! $ free0 ! $
-        keep ! (0 ∷ 1 ∷ 2 ∷ 3 ∷ 4 ∷ []) $ by ! (exits r e (answer-is r is))))))))))))))
+    goes : Fits h → ent 𝓤 (⋆ 𝓤 H A ((‵ (flft κ′ q′) ⊛ ‵ ftrue) ∷ ‵ Own ∷ [])) (Callee .pre to)
+    goes p =
+        qed W ((‵ (flft κ′ q′) ⊛ ‵ ftrue) ∷ ‵ Own ∷ []) ∵ nothing ! $ move ! (2 ∷ 0 ∷ []) $ fjoin ! $
+        adds-flag ! (h .error) $
+        adds-num ! (h .messages) (p .messages-fit) $
+        adds-num ! (h .end) (p .end-fits) $
+        adds-num ! (h .start) (p .start-fits) $
+        move ! (1 ∷ 0 ∷ []) $ join ! $ frame ! $ done !
+
+    -- what is stored back fits
+    kept : Fits h → (r : Step) → Fits (r .state) → Fits (next-into h r)
+    kept p r c = record { start-fits = c .start-fits; end-fits = p .end-fits; bytes-fit = p .bytes-fit; calls-fit = p .calls-fit; messages-fit = c .messages-fit }
+
+    -- what is had in the end
+    abbrev Left : Step → List (Item 𝓤)
+    Left r = lent-at 𝓤 κ q b o γ (next-into h r) ((‵ (flft κ′ q′) ⊛ ‵ ftrue) ∷ ‵ Own ∷ [])
+
+    exits : (r : Step) → r ≡ found → Is N.the-row (r .answer) (answer-val (r .answer) ∷ [])
+        → ent 𝓤 (⋆ 𝓤 H A (Left r)) (Post (answer-val (r .answer)))
+    exits r e is =
+        qed W (Left r) ∵
+        suffices ! _ (ends-at 𝓤 H A f.ended stayed (f.clauses 𝓤 H A at-mem run) W here (answer-val (r .answer)) (r .answer) (next-into h r, (tt, tt)) (tt, (tt, tt))) $
+        says ! (next-back h (s .now) r e) $
+        move ! (2 ∷ 3 ∷ []) $ join ! $ frame ! $
+        feqI ! (List Val) (vptr b o ∷ []) (vptr b o ∷ []) refl $ fjoin3 ! $
+        nothing ! $ move ! (2 ∷ 0 ∷ []) $ fjoin ! $ move ! (1 ∷ 0 ∷ []) $ fjoin ! $ frame ! $
+        owns-answer ! (r .answer) is $ done !
+
+    module _ (C : Calls 𝓤 H) (Λ : Loops 𝓤 H) (fm : FmC 𝓤 H (W .laws) C) (known : Triple 𝓤 (C #lent·next-on) Callee) where
+      walk : Is (ShrSlice (named 1) κ′ u8) s (sv ∷ []) → ent 𝓤 (onEntry 𝓤 H A f.signature (κ, (κ′, tt)) (q, (q′, tt)) x at)
+          (WpFn 𝓤 H C Λ code.function (vptr b o ∷ sv ∷ []) Post)
+      walk p =
+          qed W ((‵ (flft κ q) ⊛ ‵ (flft κ′ q′) ⊛ ‵ ftrue) ∷ ‵ (owns (MutRef (named 0) κ T.the-row ∷ ShrSlice (named 1) κ′ u8 ∷ []) x at) ∷ []) ∵
+          split ! $ move ! (2 ∷ []) $ fsplit ! $ fsplit3 ! $ drop ! $
+          move ! (2 ∷ []) $ fsplit ! $
+          use1 W (‵ Own ⊛ ‵ Own) (shr-slice-copy 𝓤 H A W (named 1) κ′ u8 .twice s (sv ∷ [])) $
+          split ! $ move ! (3 ∷ 4 ∷ 5 ∷ 6 ∷ 0 ∷ 1 ∷ []) $
+          -- [obs; the borrow; the token; the slice's token; what buf owns, twice; true]
+          enter ! C Λ code.function (vptr b o ∷ sv ∷ []) _ $
+          alloc1 ! (λ l₀. alloc1 ! (λ l₁. alloc1 ! (λ l₂. alloc1 ! (λ l₃. alloc1 ! (λ l₄. alloc1 ! (λ l₅. alloc1 ! (λ l₆. alloc1 ! (λ l₇.
+          alloc0 ! $ params1 ! $ pass1 ! (init ! 12 refl (tt, tt)) $
+          pass1 ! (init ! 10 refl (shr-slice-lawful 𝓤 H A W (named 1) κ′ u8 .typed s (sv ∷ []) p .0)) $ pass0 ! $
+          move ! (16 ∷ 17 ∷ 18 ∷ []) $ opens-stream ! tt h b o (λ was.
+          -- [the record's cell; what a Stream owns; the open borrow; obs; auth; room for _7; …; down to room for _0; …; the slice's token; what buf owns, twice]
+          loads ! 17 11 0 refl refl refl (num (fits h was .start-fits)) $
+          loads ! 17 9 1 refl refl refl (num (fits h was .end-fits)) $
+          loads ! 17 7 4 refl refl refl (num (fits h was .messages-fit)) $
+          loads ! 17 5 5 refl refl refl (tt, tt) $
+          move ! (1 ∷ []) $ drop ! $ move ! (20 ∷ 21 ∷ []) $ use2 W (raw (Callee .pre to)) (goes (fits h was)) $
+          calls-at ! fm Callee known to (hands ! 11 refl (hands ! 9 refl (hands ! 7 refl (hands ! 5 refl (hands ! 15 refl (no-more !)))))) (λ v.
+          hears ! tt g.ended (g.clauses 𝓤 H A at-mem run) to (λ r _. r ≡ found) (λ r _. id⊢ 𝓤 _) (λ r _ e. move ! (2 ∷ []) $ drop ! $
+          peeks ! S.the-row (Is S.the-row) (shows 𝓤 H A S.the-row) r (v ∷ []) (λ is.
+          -- [what a Step owns; the slice's token; the record's cell; the open borrow; obs; auth; _7; …; down to room for _0; …; what buf owns]
+          lands-step ! 14 r is (from ! (stop !)) refl $ move ! (2 ∷ []) $
+          stores ! 18 0 refl refl refl (look-in ! 14 (in-state ! 0 refl)) (num (changed r is .start-fits)) $
+          stores ! 18 4 refl refl refl (look-in ! 14 (in-state ! 4 refl)) (num (changed r is .messages-fit)) $
+          stores ! 18 5 refl refl refl (look-in ! 14 (in-state ! 5 refl)) (tt, tt) $
+          answers ! 14 20 r is refl refl (from ! (fld ! {τ = N′.mir} {d = 48} refl (stop !))) (from ! (stop !)) $
+          move ! (1 ∷ []) $ drop ! $ move ! (0 ∷ 2 ∷ 3 ∷ 4 ∷ []) $
+          closes-stream ! tt (next-into h r) (made (next-into h r) (kept (fits h was) r (changed r is))) b o $
+          -- [obs; the borrow; the token; the slice's token; _7; …; _6; …; _5; …; _4; …; _3; …; _2; …; _1; …; _0; …; what buf owns]
+          returns ! (look ! 18 {τ = N′.mir} refl) $
+          move ! (18 ∷ 19 ∷ 16 ∷ 17 ∷ 14 ∷ 15 ∷ 12 ∷ 13 ∷ 10 ∷ 11 ∷ 8 ∷ 9 ∷ 6 ∷ 7 ∷ 4 ∷ 5 ∷ []) $
+          gone ! $ gone ! $ gone ! $ gone ! $ gone ! $ gone ! $ gone ! $ gone ! $ free0 ! $
+          keep ! (0 ∷ 1 ∷ 2 ∷ 3 ∷ 4 ∷ []) $ by ! (exits r e (answer-is r is))))))))))))))
 
 pub next-spec : {M : Type 1} → stated.statement M
 unfolding code.routine
 next-spec 𝓤 H 𝓜 𝓖 𝓡 =
+    let A = 𝓖 .A in
     let W = givenOf 𝓤 H 𝓜 𝓖 in
     let Γ = tables 𝓤 H 𝓜 𝓡 code.env in
-    by-walk 𝓤 H 𝓜 𝓖 𝓡 code.env f.ended stayed (f.clauses 𝓤 H (𝓖 .A) (𝓜 .mem) (𝓡 .run)) #lent·next code.function (code.unfolded 𝓤 H 𝓜 𝓡)
-    (goes-ref 𝓤 H (𝓖 .A) W 2 0 tt (plain (λ _. T.the-row)), (goes-none-slice 𝓤 H (𝓖 .A) W 2 (1 ∷ []) tt (plain (λ _. u8)) yes, tt))
+    let known = cited 𝓤 H (Callee 𝓤 H A (𝓜 .mem) (𝓡 .run)) 𝓜 𝓡 code.env #lent·next-on g-def.routine code.calls-lent·next-on (g-thm.met 𝓤 H 𝓜 𝓖 𝓡) in
+    by-walk 𝓤 H 𝓜 𝓖 𝓡 code.env f.ended stayed (f.clauses 𝓤 H A (𝓜 .mem) (𝓡 .run)) #lent·next code.function (code.unfolded 𝓤 H 𝓜 𝓡)
+    (goes-ref 𝓤 H A W 2 0 tt (plain (λ _. T.the-row)), (goes-none-slice 𝓤 H A W 2 (1 ∷ []) tt (plain (λ _. u8)) yes, tt))
     (λ κs. (ptr-vals, (slice-vals, tt))) (λ κs. (mut-tells (named 0) (κs .0) T.the-row, (shr-slice-tells (named 1) (κs .1 .0) u8, tt)))
-    (λ fm κs qs bounds a _ are. walk 𝓤 H (𝓖 .A) W (𝓜 .mem) (𝓡 .run) (κs .0) (κs .1 .0) (qs .0) (qs .1 .0) (a .0 .ptr .0) (a .0 .ptr .1) (a .0 .name) (a .0 .now) (a .1 .0)
-    (Γ .C) (Γ .Λ) fm
-    (cited 𝓤 H (Callee 𝓤 H (𝓖 .A) (𝓜 .mem) (𝓡 .run)) 𝓜 𝓡 code.env #lent·next-on g-def.routine code.calls-lent·next-on (g-thm.met 𝓤 H 𝓜 𝓖 𝓡)) (are .1 .0))
+    (λ fm κs qs bounds a _ are. walk 𝓤 H A (𝓜 .mem) (𝓡 .run) W (κs .0) (κs .1 .0) (qs .0) (qs .1 .0)
+    (a .0 .ptr .0) (a .0 .ptr .1) (a .0 .name) (a .0 .now) (a .1 .0) (Γ .C) (Γ .Λ) fm known (are .1 .0))

@@ -21,10 +21,14 @@ use Rattle.lent.proofs.told_on.Symbol as g-def
 use Rattle.lent.proofs.told_on.Symbol.{name as #lent·told-on}
 use Rattle.lent.proofs.told_on.Met as g-thm
 use Rattle.lent.proofs.Apart.{told-parts, told-into, told-back}
-use Rattle.lent.proofs.Held.{answer-val, Fits, fits, made, num, changed, answer-is, lent-at, opens-stream, closes-stream, owns-answer, loads, stores}
-use Rattle.lent.proofs.Held.{lands-step, answers, in-state, hands, gone, adds-num, adds-flag}
-use Rattle.lent.proofs.Held.{answer-val, Fits, fits, made, num, changed, answer-is, lent-at, opens-stream, closes-stream, owns-answer, loads, stores}
-use Rattle.lent.proofs.Held.{lands-step, answers, in-state, hands, gone, adds-num, adds-flag}
+use Rattle.lent.proofs.Held.{answer-val, Fits, fits, made, num-val, num, changed, answer-is, lent-at, opens-stream, closes-stream, owns-answer, loads}
+use Rattle.lent.proofs.Held.{stores, lands-step, answers, in-state, hands, gone, adds-num, adds-flag}
+use Rattle.lent.proofs.Held.{answer-val, Fits, fits, made, num-val, num, changed, answer-is, lent-at, opens-stream, closes-stream, owns-answer, loads}
+use Rattle.lent.proofs.Held.{stores, lands-step, answers, in-state, hands, gone, adds-num, adds-flag}
+use Rattle.lent.proofs.Held.{answer-val, Fits, fits, made, num-val, num, changed, answer-is, lent-at, opens-stream, closes-stream, owns-answer, loads}
+use Rattle.lent.proofs.Held.{stores, lands-step, answers, in-state, hands, gone, adds-num, adds-flag}
+use Rattle.lent.proofs.Held.{answer-val, Fits, fits, made, num-val, num, changed, answer-is, lent-at, opens-stream, closes-stream, owns-answer, loads}
+use Rattle.lent.proofs.Held.{stores, lands-step, answers, in-state, hands, gone, adds-num, adds-flag}
 use Rattle.lent.proofs.Walk.{by-walk, hears}
 use Rattle.lent.proofs.told.Key.{name as #lent·told}
 use Rattle.lent.proofs.told as f
@@ -34,108 +38,110 @@ use Rattle.lent.proofs.told.Code as code
 abbrev stayed : Stays (f.ended .signature .params) (f.ended .kept)
 stayed = (stay-ref (0 ∷ []) tt (plain (λ _. T.the-row)), (stay-none (λ _. usize) yes, tt))
 
--- the contract that the proof cites
-abbrev Callee : {M : Type 1} (𝓤 : URA M) (H : Heap 𝓤) (A : Atoms 𝓤) (mem : Memory → SProp 𝓤) (run : Routine → Fun 𝓤) → Contract 𝓤
-Callee 𝓤 H A mem run = tripleOf 𝓤 H A g.signature (g.spec 𝓤 H A mem run)
+module _ {M : Type 1} (𝓤 : URA M) (H : Heap 𝓤) (A : Atoms 𝓤) (at-mem : Memory → SProp 𝓤) (run : Routine → Fun 𝓤) where
+  -- the contract that the proof cites, and the function's own
+  abbrev Callee : Contract 𝓤
+  Callee = tripleOf 𝓤 H A g.signature (g.spec 𝓤 H A at-mem run)
 
-module _ {M : Type 1} (𝓤 : URA M) (H : Heap 𝓤) (A : Atoms 𝓤) (W : Given 𝓤 H A) (at-mem : Memory → SProp 𝓤) (run : Routine → Fun 𝓤) (κ : Lft) (q : Share) (b o : ℕ) (γ : GName) (h : Stream) (n : ℕ) (n-fits : n < 2 ^ 64) where
-  abbrev x : RefT Stream × (ℕ × Unit {0})
-  x = (record { ptr = (b, o); name = γ; now = h }, (n, tt))
-
-  abbrev at : List Val × (List Val × Unit {0})
-  at = (vptr b o ∷ [], (vint w64 n ∷ [], tt))
-
-  -- the contract of the function itself, and what it binds outside
   abbrev Walked : Contract 𝓤
   Walked = walkOf 𝓤 H A f.ended stayed (f.clauses 𝓤 H A at-mem run)
 
-  abbrev here : Walked .Ghost
-  here = (((κ, tt), (q, tt), tt, x, at), tt)
+  module _ (W : Given 𝓤 H A) (κ : Lft) (q : Share) (b o : ℕ) (γ : GName) (h : Stream) (n : ℕ) (n-fits : n < 2 ^ 64) where
+    abbrev x : RefT Stream × (ℕ × Unit {0})
+    x = (record { ptr = (b, o); name = γ; now = h }, (n, tt))
 
-  abbrev Post : Val → SProp 𝓤
-  Post = Walked .post here
+    abbrev at : List Val × (List Val × Unit {0})
+    at = (vptr b o ∷ [], (num-val n, tt))
 
-  -- what the callee is passed
-  abbrev args : ℕ × (ℕ × (ℕ × (Bool × (ℕ × Unit {0}))))
-  args = (h .start, (h .end, (h .«bytes_read», (h .error, (n, tt)))))
+    -- what the function's own contract binds outside
+    abbrev here : Walked .Ghost
+    here = (((κ, tt), (q, tt), tt, x, at), tt)
 
-  abbrev to : Callee 𝓤 H A at-mem run .Ghost
-  to = ((tt, tt, tt, args, (vint w64 (h .start) ∷ [], (vint w64 (h .end) ∷ [], (vint w64 (h .«bytes_read») ∷ [], (vbool (h .error) ∷ [], (vint w64 n ∷ [], tt)))))), tt)
+    abbrev Post : Val → SProp 𝓤
+    Post = Walked .post here
 
-  abbrev found : Step
-  found = toldOf (told-parts h) n
+    -- what the callee is passed
+    abbrev args : ℕ × (ℕ × (ℕ × (Bool × (ℕ × Unit {0}))))
+    args = (h .start, (h .end, (h .«bytes_read», (h .error, (n, tt)))))
 
-  goes : Fits h → ent 𝓤 (emp 𝓤) (Callee 𝓤 H A at-mem run .pre to)
-  goes p =
-      qed W [] ∵ nothing ! $
-      adds-num ! n n-fits $
-      adds-flag ! (h .error) $
-      adds-num ! (h .«bytes_read») (p .bytes-fit) $
-      adds-num ! (h .end) (p .end-fits) $
-      adds-num ! (h .start) (p .start-fits) $
-      nothing ! $ join ! $ frame ! $ done !
+    abbrev to : Callee .Ghost
+    to = ((tt, tt, tt, args, (num-val (h .start), (num-val (h .end), (num-val (h .«bytes_read»), (vbool (h .error) ∷ [], (num-val n, tt)))))), tt)
 
-  -- what is stored back fits
-  kept : Fits h → (r : Step) → Fits (r .state) → Fits (told-into h r)
-  kept p r c = record { start-fits = p .start-fits; end-fits = c .end-fits; bytes-fit = c .bytes-fit; calls-fit = p .calls-fit; messages-fit = p .messages-fit }
+    abbrev found : Step
+    found = toldOf (told-parts h) n
 
-  -- what is had in the end
-  abbrev Left : Step → List (Item 𝓤)
-  Left r = lent-at 𝓤 κ q b o γ (told-into h r) []
+    goes : Fits h → ent 𝓤 (emp 𝓤) (Callee .pre to)
+    goes p =
+        qed W [] ∵ nothing ! $
+        adds-num ! n n-fits $
+        adds-flag ! (h .error) $
+        adds-num ! (h .«bytes_read») (p .bytes-fit) $
+        adds-num ! (h .end) (p .end-fits) $
+        adds-num ! (h .start) (p .start-fits) $
+        nothing ! $ join ! $ frame ! $ done !
 
-  exits : (r : Step) → r ≡ found → Is N.the-row (r .answer) (answer-val (r .answer) ∷ [])
-      → ent 𝓤 (⋆ 𝓤 H A (Left r)) (Post (answer-val (r .answer)))
-  exits r e is =
-      qed W (Left r) ∵
-      suffices ! _ (ends-at 𝓤 H A f.ended stayed (f.clauses 𝓤 H A at-mem run) W here (answer-val (r .answer)) (r .answer) (told-into h r, (tt, tt)) (tt, (tt, tt))) $
-      says ! (told-back h n r e) $
-      nothing ! $ move ! (3 ∷ 0 ∷ []) $ join ! $ frame ! $
-      feqI ! (List Val) (vptr b o ∷ []) (vptr b o ∷ []) refl $ fjoin3 ! $
-      nothing ! $ adds-num ! n n-fits $ move ! (1 ∷ 0 ∷ []) $ fjoin ! $ frame ! $
-      owns-answer ! (r .answer) is $ done !
+    -- what is stored back fits
+    kept : Fits h → (r : Step) → Fits (r .state) → Fits (told-into h r)
+    kept p r c = record { start-fits = p .start-fits; end-fits = c .end-fits; bytes-fit = c .bytes-fit; calls-fit = p .calls-fit; messages-fit = p .messages-fit }
 
-  module _ (C : Calls 𝓤 H) (Λ : Loops 𝓤 H) (fm : FmC 𝓤 H (W .laws) C) (known : Triple 𝓤 (C #lent·told-on) (Callee 𝓤 H A at-mem run)) where
-    walk : ent 𝓤 (onEntry 𝓤 H A f.signature (κ, tt) (q, tt) x at) (WpFn 𝓤 H C Λ code.function (vptr b o ∷ vint w64 n ∷ []) Post)
-    walk =
-        qed W ((‵ (flft κ q) ⊛ ‵ ftrue) ∷ ‵ (owns (MutRef (named 0) κ T.the-row ∷ usize ∷ []) x at) ∷ []) ∵
-        split ! $ move ! (2 ∷ []) $ fsplit ! $ fsplit3 ! $ drop ! $ move ! (0 ∷ 1 ∷ 3 ∷ []) $
-        -- [obs; the borrow; the token; true; true]
-        enter ! C Λ code.function (vptr b o ∷ vint w64 n ∷ []) _ $
-        alloc1 ! (λ l₀. alloc1 ! (λ l₁. alloc1 ! (λ l₂. alloc1 ! (λ l₃. alloc1 ! (λ l₄. alloc1 ! (λ l₅. alloc1 ! (λ l₆. alloc1 ! (λ l₇.
-        alloc0 ! $ params1 ! $ pass1 ! (init ! 12 refl (tt, tt)) $
-        pass1 ! (init ! 10 refl (num n-fits)) $ pass0 ! $
-        move ! (16 ∷ 17 ∷ 18 ∷ []) $ opens-stream ! tt h b o (λ was.
-        -- [the record's cell; what a Stream owns; the open borrow; obs; auth; room for _7; …; _6; …; _5; …; _4; …; _3; …; _2; …; _1; …; room for _0; …]
-        loads ! 17 11 0 refl refl refl (num (fits h was .start-fits)) $
-        loads ! 17 9 1 refl refl refl (num (fits h was .end-fits)) $
-        loads ! 17 7 2 refl refl refl (num (fits h was .bytes-fit)) $
-        loads ! 17 5 5 refl refl refl (tt, tt) $
-        move ! (1 ∷ []) $ drop ! $ use0 W (raw (Callee 𝓤 H A at-mem run .pre to)) (goes (fits h was)) $
-        calls-at ! fm (Callee 𝓤 H A at-mem run) known to (hands ! 11 refl (hands ! 9 refl (hands ! 7 refl (hands ! 5 refl (hands ! 15 refl (no-more !)))))) (λ v.
-        hears ! tt g.ended (g.clauses 𝓤 H A at-mem run) to (λ r _. r ≡ found) (λ r _. id⊢ 𝓤 _) (λ r _ e. move ! (1 ∷ 2 ∷ []) $ drop ! $ drop ! $
-        peeks ! S.the-row (Is S.the-row) (shows 𝓤 H A S.the-row) r (v ∷ []) (λ is.
-        -- [what a Step owns; the record's cell; the open borrow; obs; auth; _7; …; _6; …; _5; …; _4; …; room for _3; …; _2; …; _1; …; room for _0; …]
-        lands-step ! 13 r is (from ! (stop !)) refl $ move ! (1 ∷ []) $
-        stores ! 17 1 refl refl refl (look-in ! 13 (in-state ! 1 refl)) (num (changed r is .end-fits)) $
-        stores ! 17 2 refl refl refl (look-in ! 13 (in-state ! 2 refl)) (num (changed r is .bytes-fit)) $
-        stores ! 17 5 refl refl refl (look-in ! 13 (in-state ! 5 refl)) (tt, tt) $
-        answers ! 13 19 r is refl refl (from ! (fld ! {τ = N′.mir} {d = 48} refl (stop !))) (from ! (stop !)) $
-        move ! (1 ∷ []) $ drop ! $
-        closes-stream ! tt (told-into h r) (made (told-into h r) (kept (fits h was) r (changed r is))) b o $
-        -- [obs; the borrow; the token; _7; …; _6; …; _5; …; _4; …; _3; …; _2; …; _1; …; _0; …]
-        returns ! (look ! 17 {τ = N′.mir} refl) $
-        move ! (17 ∷ 18 ∷ 15 ∷ 16 ∷ 13 ∷ 14 ∷ 11 ∷ 12 ∷ 9 ∷ 10 ∷ 7 ∷ 8 ∷ 5 ∷ 6 ∷ 3 ∷ 4 ∷ []) $
-        gone ! $ gone ! $ gone ! $ gone ! $ gone ! $ gone ! $ gone ! $ gone ! $ free0 ! $
-        keep ! (0 ∷ 1 ∷ 2 ∷ []) $ by ! (exits r e (answer-is r is))))))))))))))
+    -- what is had in the end
+    abbrev Left : Step → List (Item 𝓤)
+    Left r = lent-at 𝓤 κ q b o γ (told-into h r) []
+
+    exits : (r : Step) → r ≡ found → Is N.the-row (r .answer) (answer-val (r .answer) ∷ [])
+        → ent 𝓤 (⋆ 𝓤 H A (Left r)) (Post (answer-val (r .answer)))
+    exits r e is =
+        qed W (Left r) ∵
+        suffices ! _ (ends-at 𝓤 H A f.ended stayed (f.clauses 𝓤 H A at-mem run) W here (answer-val (r .answer)) (r .answer) (told-into h r, (tt, tt)) (tt, (tt, tt))) $
+        says ! (told-back h n r e) $
+        nothing ! $ move ! (3 ∷ 0 ∷ []) $ join ! $ frame ! $
+        feqI ! (List Val) (vptr b o ∷ []) (vptr b o ∷ []) refl $ fjoin3 ! $
+        nothing ! $ adds-num ! n n-fits $ move ! (1 ∷ 0 ∷ []) $ fjoin ! $ frame ! $
+        owns-answer ! (r .answer) is $ done !
+
+    module _ (C : Calls 𝓤 H) (Λ : Loops 𝓤 H) (fm : FmC 𝓤 H (W .laws) C) (known : Triple 𝓤 (C #lent·told-on) Callee) where
+      walk : ent 𝓤 (onEntry 𝓤 H A f.signature (κ, tt) (q, tt) x at) (WpFn 𝓤 H C Λ code.function (vptr b o ∷ vint w64 n ∷ []) Post)
+      walk =
+          qed W ((‵ (flft κ q) ⊛ ‵ ftrue) ∷ ‵ (owns (MutRef (named 0) κ T.the-row ∷ usize ∷ []) x at) ∷ []) ∵
+          split ! $ move ! (2 ∷ []) $ fsplit ! $ fsplit3 ! $ drop ! $ move ! (0 ∷ 1 ∷ 3 ∷ []) $
+          -- [obs; the borrow; the token; true; true]
+          enter ! C Λ code.function (vptr b o ∷ vint w64 n ∷ []) _ $
+          alloc1 ! (λ l₀. alloc1 ! (λ l₁. alloc1 ! (λ l₂. alloc1 ! (λ l₃. alloc1 ! (λ l₄. alloc1 ! (λ l₅. alloc1 ! (λ l₆. alloc1 ! (λ l₇.
+          alloc0 ! $ params1 ! $ pass1 ! (init ! 12 refl (tt, tt)) $
+          pass1 ! (init ! 10 refl (num n-fits)) $ pass0 ! $
+          move ! (16 ∷ 17 ∷ 18 ∷ []) $ opens-stream ! tt h b o (λ was.
+          -- [the record's cell; what a Stream owns; the open borrow; obs; auth; room for _7; …; _6; …; _5; …; _4; …; _3; …; _2; …; _1; …; room for _0; …]
+          loads ! 17 11 0 refl refl refl (num (fits h was .start-fits)) $
+          loads ! 17 9 1 refl refl refl (num (fits h was .end-fits)) $
+          loads ! 17 7 2 refl refl refl (num (fits h was .bytes-fit)) $
+          loads ! 17 5 5 refl refl refl (tt, tt) $
+          move ! (1 ∷ []) $ drop ! $ use0 W (raw (Callee .pre to)) (goes (fits h was)) $
+          calls-at ! fm Callee known to (hands ! 11 refl (hands ! 9 refl (hands ! 7 refl (hands ! 5 refl (hands ! 15 refl (no-more !)))))) (λ v.
+          hears ! tt g.ended (g.clauses 𝓤 H A at-mem run) to (λ r _. r ≡ found) (λ r _. id⊢ 𝓤 _) (λ r _ e. move ! (1 ∷ 2 ∷ []) $ drop ! $ drop ! $
+          peeks ! S.the-row (Is S.the-row) (shows 𝓤 H A S.the-row) r (v ∷ []) (λ is.
+          -- [what a Step owns; the record's cell; the open borrow; obs; auth; _7; …; down to room for _0; …]
+          lands-step ! 13 r is (from ! (stop !)) refl $ move ! (1 ∷ []) $
+          stores ! 17 1 refl refl refl (look-in ! 13 (in-state ! 1 refl)) (num (changed r is .end-fits)) $
+          stores ! 17 2 refl refl refl (look-in ! 13 (in-state ! 2 refl)) (num (changed r is .bytes-fit)) $
+          stores ! 17 5 refl refl refl (look-in ! 13 (in-state ! 5 refl)) (tt, tt) $
+          answers ! 13 19 r is refl refl (from ! (fld ! {τ = N′.mir} {d = 48} refl (stop !))) (from ! (stop !)) $
+          move ! (1 ∷ []) $ drop ! $
+          closes-stream ! tt (told-into h r) (made (told-into h r) (kept (fits h was) r (changed r is))) b o $
+          -- [obs; the borrow; the token; _7; …; _6; …; _5; …; _4; …; _3; …; _2; …; _1; …; _0; …]
+          returns ! (look ! 17 {τ = N′.mir} refl) $
+          move ! (17 ∷ 18 ∷ 15 ∷ 16 ∷ 13 ∷ 14 ∷ 11 ∷ 12 ∷ 9 ∷ 10 ∷ 7 ∷ 8 ∷ 5 ∷ 6 ∷ 3 ∷ 4 ∷ []) $
+          gone ! $ gone ! $ gone ! $ gone ! $ gone ! $ gone ! $ gone ! $ gone ! $ free0 ! $
+          keep ! (0 ∷ 1 ∷ 2 ∷ []) $ by ! (exits r e (answer-is r is))))))))))))))
 
 pub told-spec : {M : Type 1} → stated.statement M
 unfolding code.routine
 told-spec 𝓤 H 𝓜 𝓖 𝓡 =
+    let A = 𝓖 .A in
     let W = givenOf 𝓤 H 𝓜 𝓖 in
     let Γ = tables 𝓤 H 𝓜 𝓡 code.env in
-    by-walk 𝓤 H 𝓜 𝓖 𝓡 code.env f.ended stayed (f.clauses 𝓤 H (𝓖 .A) (𝓜 .mem) (𝓡 .run)) #lent·told code.function (code.unfolded 𝓤 H 𝓜 𝓡)
-    (goes-ref 𝓤 H (𝓖 .A) W 1 0 tt (plain (λ _. T.the-row)), (goes-none 𝓤 H (𝓖 .A) W 1 (λ _. usize) yes (λ κs x f. refl), tt))
+    let known = cited 𝓤 H (Callee 𝓤 H A (𝓜 .mem) (𝓡 .run)) 𝓜 𝓡 code.env #lent·told-on g-def.routine code.calls-lent·told-on (g-thm.met 𝓤 H 𝓜 𝓖 𝓡) in
+    by-walk 𝓤 H 𝓜 𝓖 𝓡 code.env f.ended stayed (f.clauses 𝓤 H A (𝓜 .mem) (𝓡 .run)) #lent·told code.function (code.unfolded 𝓤 H 𝓜 𝓡)
+    (goes-ref 𝓤 H A W 1 0 tt (plain (λ _. T.the-row)), (goes-none 𝓤 H A W 1 (λ _. usize) yes (λ κs x f. refl), tt))
     (λ κs. (ptr-vals, (uint-vals w64, tt))) (λ κs. (mut-tells (named 0) (κs .0) T.the-row, (uint-tells w64, tt)))
-    (λ fm κs qs bounds a _ are. walk 𝓤 H (𝓖 .A) W (𝓜 .mem) (𝓡 .run) (κs .0) (qs .0) (a .0 .ptr .0) (a .0 .ptr .1) (a .0 .name) (a .0 .now) (a .1 .0) (are .1 .0 .1)
-    (Γ .C) (Γ .Λ) fm
-    (cited 𝓤 H (Callee 𝓤 H (𝓖 .A) (𝓜 .mem) (𝓡 .run)) 𝓜 𝓡 code.env #lent·told-on g-def.routine code.calls-lent·told-on (g-thm.met 𝓤 H 𝓜 𝓖 𝓡)))
+    (λ fm κs qs bounds a _ are. walk 𝓤 H A (𝓜 .mem) (𝓡 .run) W (κs .0) (qs .0)
+    (a .0 .ptr .0) (a .0 .ptr .1) (a .0 .name) (a .0 .now) (a .1 .0) (are .1 .0 .1) (Γ .C) (Γ .Λ) fm known)
