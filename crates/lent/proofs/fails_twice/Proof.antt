@@ -89,7 +89,7 @@ module _ {M : Type 1} (𝓤 : URA M) (H : Heap 𝓤) (A : Atoms 𝓤) (at-mem : 
           -- _2 = fresh(); _1 = _2
           use0 W (raw (Fresh .pre to-fresh)) goes-fresh $
           calls-at ! fm Fresh known-fresh to-fresh (no-more !) (λ v.
-          hears ! tt n.ended (n.clauses 𝓤 H A at-mem run) to-fresh (λ h _. h ≡ freshState) (λ h _. id⊢ 𝓤 _) (λ h _ e₀. move ! (1 ∷ 2 ∷ []) $ drop ! $ drop ! $
+          hears 𝓤 H A n.ended (n.clauses 𝓤 H A at-mem run) to-fresh ! tt (λ h _. h ≡ freshState) (λ h _. id⊢ 𝓤 _) (λ h _ e₀. move ! (1 ∷ 2 ∷ []) $ drop ! $ drop ! $
           peeks ! T.the-row (Is T.the-row) (shows 𝓤 H A T.the-row) h (v ∷ []) (λ is.
           land ! (from ! (stop !)) (init ! 7 {τ = T′.mir} refl (state-typed 𝓤 H A W h is)) $
           assigns ! (of-opd ! (load ! (from ! (stop !)) (look ! 7 refl))) (from ! (stop !)) (init ! 9 {τ = T′.mir} refl (state-typed 𝓤 H A W h is)) $
@@ -102,7 +102,7 @@ module _ {M : Type 1} (𝓤 : URA M) (H : Heap 𝓤) (A : Atoms 𝓤) (at-mem : 
           -- [the reference; what waits; the token; room for _5; …; _4; …; _3; …; _2; …; (of _1) …; room for _0; …]: _3 = told_failed(_4)
           move ! (0 ∷ 2 ∷ []) $ use2 W (raw (Failed .pre (to l₁ ν γ h))) (goes l₁ ν γ h) $
           calls-at ! fm Failed known (to l₁ ν γ h) (hands ! 4 refl (no-more !)) (λ v₁.
-          hears ! tt g.ended (g.clauses 𝓤 H A at-mem run) (to l₁ ν γ h) (λ a zs. Said h a (zs .0)) (λ a zs. id⊢ 𝓤 _) (λ a₁ zs e₁.
+          hears 𝓤 H A g.ended (g.clauses 𝓤 H A at-mem run) (to l₁ ν γ h) ! tt (λ a zs. Said h a (zs .0)) (λ a zs. id⊢ 𝓤 _) (λ a₁ zs e₁.
           move ! (2 ∷ []) $ fsplit ! $ move ! (1 ∷ []) $ drop ! $ move ! (1 ∷ 2 ∷ []) $
           -- [the answer; the token; the last record; what waits; room for _5; …; _4; …; _3; …; _2; …; (of _1) …; room for _0; …]
           peeks ! N.the-row (Is N.the-row) (shows 𝓤 H A N.the-row) a₁ (v₁ ∷ []) (λ is₁.
@@ -114,7 +114,7 @@ module _ {M : Type 1} (𝓤 : URA M) (H : Heap 𝓤) (A : Atoms 𝓤) (at-mem : 
           lends-stream ! tt (ν′ ∷ []) (zs .0) l₁ 0 (λ γ′.
           move ! (0 ∷ 2 ∷ []) $ use2 W (raw (Failed .pre (to l₁ ν′ γ′ (zs .0)))) (goes l₁ ν′ γ′ (zs .0)) $
           calls-at ! fm Failed known (to l₁ ν′ γ′ (zs .0)) (hands ! 2 refl (no-more !)) (λ v₂.
-          hears ! tt g.ended (g.clauses 𝓤 H A at-mem run) (to l₁ ν′ γ′ (zs .0)) (λ a ws. Said (zs .0) a (ws .0)) (λ a ws. id⊢ 𝓤 _) (λ a₂ ws e₂.
+          hears 𝓤 H A g.ended (g.clauses 𝓤 H A at-mem run) (to l₁ ν′ γ′ (zs .0)) ! tt (λ a ws. Said (zs .0) a (ws .0)) (λ a ws. id⊢ 𝓤 _) (λ a₂ ws e₂.
           move ! (2 ∷ []) $ fsplit ! $ move ! (1 ∷ []) $ drop ! $ move ! (1 ∷ 2 ∷ []) $
           peeks ! N.the-row (Is N.the-row) (shows 𝓤 H A N.the-row) a₂ (v₂ ∷ []) (λ is₂.
           land ! (from ! (stop !)) (init ! 13 {τ = N′.mir} refl (answer-typed 𝓤 H A W a₂ is₂)) $

@@ -128,11 +128,12 @@ module _ {M : Type 1} (𝓤 : URA M) (H : Heap 𝓤) (A : Atoms 𝓤) (at-mem : 
           loads ! 19 11 1 refl refl refl (num (fits h was .end-fits)) $
           loads ! 19 9 3 refl refl refl (num (fits h was .calls-fit)) $
           assigns ! (addr ! (from ! (fld ! refl (hop ! (look-in ! 17 (sub ! 0 refl (whole !))) (stop !))))) (from ! (stop !)) (init ! 7 refl (tt, tt)) $
-          assigns ! (agg ! (and-then ! (load ! (from ! (stop !)) (look ! 7 refl)) (and-then ! (load ! (from ! (fld ! refl (stop !))) (look-in ! 17 (sub ! 1 refl (whole !)))) (no-more !))))
+          assigns ! (agg ! (and-then ! (load ! (from ! (stop !)) (look ! 7 refl))
+          (and-then ! (load ! (from ! (fld ! refl (stop !))) (look-in ! 17 (sub ! 1 refl (whole !)))) (no-more !))))
           (from ! (stop !)) (init ! 5 refl (tt, (tt, (record { fits = room .0 }, tt)))) $
           move ! (1 ∷ []) $ drop ! $ move ! (22 ∷ 23 ∷ []) $ use2 W (raw (Callee .pre to)) (goes (fits h was)) $
           calls-at ! fm Callee known to (hands ! 13 refl (hands ! 11 refl (hands ! 9 refl (hands ! 5 refl (no-more !))))) (λ v.
-          hears ! tt g.ended (g.clauses 𝓤 H A at-mem run) to (λ r zs. Said r (zs .1 .1 .1 .0)) (λ r zs. id⊢ 𝓤 _) (λ r zs e.
+          hears 𝓤 H A g.ended (g.clauses 𝓤 H A at-mem run) to ! tt (λ r zs. Said r (zs .1 .1 .1 .0)) (λ r zs. id⊢ 𝓤 _) (λ r zs e.
           -- of the last values the slice's, with its length; the others say nothing
           move ! (2 ∷ []) $ fsplit ! $ drop ! $ fsplit ! $ drop ! $ fsplit ! $ drop ! $ fsplit ! $ fsplit ! $ move ! (1 ∷ []) $ feqL ! (λ l. move ! (1 ∷ []) $ drop ! $
           move ! (1 ∷ 2 ∷ []) $ peeks ! S.the-row (Is S.the-row) (shows 𝓤 H A S.the-row) r (v ∷ []) (λ is.

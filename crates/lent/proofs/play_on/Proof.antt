@@ -80,16 +80,11 @@ module _ {M : Type 1} {𝓤 : URA M} {H : Heap 𝓤} {A : Atoms 𝓤} {K : Type 
   in-played t k e = sub t {ν = state-name} {τs = state-parts} k e (beside t 0 {d = 0} {τ = T′.mir} refl)
 
 abbrev stayed : Stays (f.ended .signature .params) (f.ended .kept)
-stayed = (
-  stay-ref (0 ∷ []) tt (plain (λ _. T.the-row)),
-  (
-    gave-slice (1 ∷ []) tt (plain (λ _. u8)),
-    (
-      stay-none-slice (2 ∷ []) tt (plain (λ _. u8)) yes,
-      (stay-none (λ _. usize) yes, (stay-none (λ _. usize) yes, tt)),
-    ),
-  ),
-)
+stayed =
+    let buf = gave-slice (1 ∷ []) tt (plain (λ _. u8)) in
+    let src = stay-none-slice (2 ∷ []) tt (plain (λ _. u8)) yes in
+    let number = stay-none (λ _. usize) yes in
+    (stay-ref (0 ∷ []) tt (plain (λ _. T.the-row)), (buf, (src, (number, (number, tt)))))
 
 -- a Played's parts are a Stream and what a Reach has
 abbrev reach : Played → Reach
@@ -226,7 +221,7 @@ module _ {M : Type 1} (𝓤 : URA M) (H : Heap 𝓤) (A : Atoms 𝓤) (at-mem : 
           pass1 ! (init ! 20 refl (num n-fits)) $
           pass1 ! (init ! 18 refl (num w-fits)) $ pass0 ! $
           move ! (30 ∷ 31 ∷ 32 ∷ []) $ opens-stream ! tt h b o (λ was.
-          -- [the record's cell; what a Stream owns; the open borrow; obs; auth; room for _14; …; down to room for _0; …; the slices' tokens; what buf owns; what src owns, twice]
+          -- [the record's cell; what a Stream owns; the open borrow; obs; auth; room for _14; …; down to _0; …; the slices' tokens; what buf owns; what src owns, twice]
           loads ! 31 19 0 refl refl refl (num (fits h was .start-fits)) $
           loads ! 31 17 1 refl refl refl (num (fits h was .end-fits)) $
           loads ! 31 15 2 refl refl refl (num (fits h was .bytes-fit)) $
@@ -234,13 +229,14 @@ module _ {M : Type 1} (𝓤 : URA M) (H : Heap 𝓤) (A : Atoms 𝓤) (at-mem : 
           loads ! 31 11 4 refl refl refl (num (fits h was .messages-fit)) $
           loads ! 31 9 5 refl refl refl (tt, tt) $
           assigns ! (addr ! (from ! (fld ! refl (hop ! (look-in ! 29 (sub ! 0 refl (whole !))) (stop !))))) (from ! (stop !)) (init ! 7 refl (tt, tt)) $
-          assigns ! (agg ! (and-then ! (load ! (from ! (stop !)) (look ! 7 refl)) (and-then ! (load ! (from ! (fld ! refl (stop !))) (look-in ! 29 (sub ! 1 refl (whole !)))) (no-more !))))
+          assigns ! (agg ! (and-then ! (load ! (from ! (stop !)) (look ! 7 refl))
+          (and-then ! (load ! (from ! (fld ! refl (stop !))) (look-in ! 29 (sub ! 1 refl (whole !)))) (no-more !))))
           (from ! (stop !)) (init ! 5 refl (tt, (tt, (record { fits = room .0 }, tt)))) $
           move ! (1 ∷ []) $ drop ! $ move ! (34 ∷ 35 ∷ 36 ∷ []) $ use3 W (raw (Callee .pre to)) (goes (fits h was)) $
           calls-at ! fm Callee known to
           (hands ! 19 refl (hands ! 17 refl (hands ! 15 refl (hands ! 13 refl (hands ! 11 refl (hands ! 9 refl
           (hands ! 5 refl (hands ! 27 refl (hands ! 25 refl (hands ! 23 refl (no-more !))))))))))) (λ v.
-          hears ! tt g.ended (g.clauses 𝓤 H A at-mem run) to (λ r zs. Said r (zs .1 .1 .1 .1 .1 .1 .0)) (λ r zs. id⊢ 𝓤 _) (λ r zs e.
+          hears 𝓤 H A g.ended (g.clauses 𝓤 H A at-mem run) to ! tt (λ r zs. Said r (zs .1 .1 .1 .1 .1 .1 .0)) (λ r zs. id⊢ 𝓤 _) (λ r zs e.
           -- of the last values that of buf, with its length; the others say nothing
           move ! (2 ∷ []) $ fsplit ! $ drop ! $ fsplit ! $ drop ! $ fsplit ! $ drop ! $ fsplit ! $ drop ! $ fsplit ! $ drop ! $ fsplit ! $ drop ! $ fsplit ! $
           fsplit ! $ move ! (1 ∷ []) $ feqL ! (λ l. move ! (1 ∷ []) $ drop ! $
@@ -281,4 +277,5 @@ play-on-spec 𝓤 H 𝓜 𝓖 𝓡 =
     (λ κs. (mut-tells (named 0) (κs .0) T.the-row, (mut-slice-tells (named 1) (κs .1 .0) u8, (shr-slice-tells (named 2) (κs .1 .1 .0) u8, (uint-tells w64, (uint-tells w64, tt))))))
     (λ fm κs qs bounds a _ are. walk 𝓤 H A (𝓜 .mem) (𝓡 .run) W (κs .0) (κs .1 .0) (κs .1 .1 .0) (qs .0) (qs .1 .0) (qs .1 .1 .0)
     (a .0 .ptr .0) (a .0 .ptr .1) (a .0 .name) (a .0 .now)
-    (a .1 .0 .ptr .0) (a .1 .0 .ptr .1) (a .1 .0 .name) (a .1 .0 .now) (a .1 .1 .0) (a .1 .1 .1 .0) (a .1 .1 .1 .1 .0) (are .1 .1 .1 .0 .1) (are .1 .1 .1 .1 .0 .1) (Γ .C) (Γ .Λ) fm known (are .1 .0 .0 .1) (are .1 .1 .0))
+    (a .1 .0 .ptr .0) (a .1 .0 .ptr .1) (a .1 .0 .name) (a .1 .0 .now)
+    (a .1 .1 .0) (a .1 .1 .1 .0) (a .1 .1 .1 .1 .0) (are .1 .1 .1 .0 .1) (are .1 .1 .1 .1 .0 .1) (Γ .C) (Γ .Λ) fm known (are .1 .0 .0 .1) (are .1 .1 .0))

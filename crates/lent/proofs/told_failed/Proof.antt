@@ -113,7 +113,7 @@ module _ {M : Type 1} (𝓤 : URA M) (H : Heap 𝓤) (A : Atoms 𝓤) (at-mem : 
           loads ! 13 5 5 refl refl refl (tt, tt) $
           move ! (1 ∷ []) $ drop ! $ use0 W (raw (Callee .pre to)) (goes (fits h was)) $
           calls-at ! fm Callee known to (hands ! 9 refl (hands ! 7 refl (hands ! 5 refl (no-more !)))) (λ v.
-          hears ! tt g.ended (g.clauses 𝓤 H A at-mem run) to (λ r _. r ≡ found) (λ r _. id⊢ 𝓤 _) (λ r _ e. move ! (1 ∷ 2 ∷ []) $ drop ! $ drop ! $
+          hears 𝓤 H A g.ended (g.clauses 𝓤 H A at-mem run) to ! tt (λ r _. r ≡ found) (λ r _. id⊢ 𝓤 _) (λ r _ e. move ! (1 ∷ 2 ∷ []) $ drop ! $ drop ! $
           peeks ! S.the-row (Is S.the-row) (shows 𝓤 H A S.the-row) r (v ∷ []) (λ is.
           -- [what a Step owns; the record's cell; the open borrow; obs; auth; _5; …; _4; …; _3; …; room for _2; …; _1; …; room for _0; …]
           lands-step ! 11 r is (from ! (stop !)) refl $ move ! (1 ∷ []) $
