@@ -144,14 +144,20 @@ side-of-requires c κs = search needs
 
 returns-7 : tie.Need-returns-7
 returns-7 c =
+    let p6 = c .before .before in
+    let p5 = p6 .before .before .before .before .before in
+    let p4 = p5 .before .before .before .before in
+    let p3 = p4 .before .before .before .before in
+    let p2 = p3 .before .before .before .before in
+    let p1 = p2 .before .before .before .before in
     rw (c .before .before .before .before .before .if1 .taken)
     (body-reads 'F' _ refl
-    (value num64M (c .before .before .before .before .before .before .before .before .before .before .before .before .before .before .before .before .before .before .before .before .before .before .before .before .before .be-u64 .ensures) (c .before .before .before .before .before .before .before .before .before .before .before .before .before .before .before .before .before .before .before .before .before .before .before .f1 .given .1)
-    ⨾ side-named _ _ (value num8M (c .before .before .before .before .before .before .before .before .before .before .before .before .before .before .before .before .before .before .before .before .before .side-at .ensures) (c .before .before .before .before .before .before .before .before .before .before .before .before .before .before .before .before .before .before .before .f2 .given .1)) (c .side-of .ensures)
-    ⨾ value num32M (c .before .before .before .before .before .before .before .before .before .before .before .before .before .before .before .before .before .be-u32 .ensures) (c .before .before .before .before .before .before .before .before .before .before .before .before .before .before .before .f3 .given .1)
-    ⨾ value num64M (c .before .before .before .before .before .before .before .before .before .before .before .before .before .text8 .ensures) (c .before .before .before .before .before .before .before .before .before .before .before .f4 .given .1)
-    ⨾ value num32M (c .before .before .before .before .before .before .before .before .before .be-u322 .ensures) (c .before .before .before .before .before .before .before .f5 .given .1)
-    ⨾ value num32M (c .before .before .before .before .text4 .ensures) (c .before .before .f6 .given .1)
+    (value num64M (p1 .before .before .be-u64 .ensures) (p1 .f1 .given .1)
+    ⨾ side-named _ _ (value num8M (p2 .before .before .side-at .ensures) (p2 .f2 .given .1)) (c .side-of .ensures)
+    ⨾ value num32M (p3 .before .before .be-u32 .ensures) (p3 .f3 .given .1)
+    ⨾ value num64M (p4 .before .before .text8 .ensures) (p4 .f4 .given .1)
+    ⨾ value num32M (p5 .before .before .be-u322 .ensures) (p5 .f5 .given .1)
+    ⨾ value num32M (p6 .before .before .text4 .ensures) (p6 .f6 .given .1)
     ⨾ end))
 
 side-of-requires-2 : tie.Need-side-of-requires-2
@@ -159,13 +165,18 @@ side-of-requires-2 c κs = search needs
 
 returns-8 : tie.Need-returns-8
 returns-8 c =
+    let p5 = c .before .before .before in
+    let p4 = p5 .before .before .before .before in
+    let p3 = p4 .before .before .before .before in
+    let p2 = p3 .before .before .before .before in
+    let p1 = p2 .before .before .before .before in
     rw (c .before .if1 .left)
     (body-reads 'A' _ refl
-    (value num64M (c .before .before .before .before .before .before .before .before .before .before .before .before .before .before .before .before .before .before .before .before .before .be-u64 .ensures) (c .before .before .before .before .before .before .before .before .before .before .before .before .before .before .before .before .before .before .before .f1 .given .1)
-    ⨾ side-named _ _ (value num8M (c .before .before .before .before .before .before .before .before .before .before .before .before .before .before .before .before .before .side-at .ensures) (c .before .before .before .before .before .before .before .before .before .before .before .before .before .before .before .f2 .given .1)) (c .side-of2 .ensures)
-    ⨾ value num32M (c .before .before .before .before .before .before .before .before .before .before .before .before .before .be-u32 .ensures) (c .before .before .before .before .before .before .before .before .before .before .before .f3 .given .1)
-    ⨾ value num64M (c .before .before .before .before .before .before .before .before .before .text8 .ensures) (c .before .before .before .before .before .before .before .f4 .given .1)
-    ⨾ value num32M (c .before .before .before .before .before .be-u322 .ensures) (c .before .before .before .f5 .given .1)
+    (value num64M (p1 .before .before .be-u64 .ensures) (p1 .f1 .given .1)
+    ⨾ side-named _ _ (value num8M (p2 .before .before .side-at .ensures) (p2 .f2 .given .1)) (c .side-of2 .ensures)
+    ⨾ value num32M (p3 .before .before .be-u32 .ensures) (p3 .f3 .given .1)
+    ⨾ value num64M (p4 .before .before .text8 .ensures) (p4 .f4 .given .1)
+    ⨾ value num32M (p5 .before .before .be-u322 .ensures) (p5 .f5 .given .1)
     ⨾ end))
 
 pub parse-add-order-spec : {M : Type 1} → statement M

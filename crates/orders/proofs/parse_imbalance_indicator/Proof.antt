@@ -186,16 +186,25 @@ cross-of-requires c κs = search needs
 
 returns-10 : tie.Need-returns-10
 returns-10 c =
+    let p9 = c .before .before .before in
+    let p8 = p9 .before .before .before .before in
+    let p7 = p8 .before .before .before .before in
+    let p6 = p7 .before .before .before .before in
+    let p5 = p6 .before .before .before .before in
+    let p4 = p5 .before .before .before .before in
+    let p3 = p4 .before .before .before .before in
+    let p2 = p3 .before .before .before .before in
+    let p1 = p2 .before .before .before .before in
     body-reads 'I' _ refl
-    (value num64M (c .before .before .before .before .before .before .before .before .before .before .before .before .before .before .before .before .before .before .before .before .before .before .before .before .before .before .before .before .before .before .before .before .before .before .before .before .before .be-u64 .ensures) (c .before .before .before .before .before .before .before .before .before .before .before .before .before .before .before .before .before .before .before .before .before .before .before .before .before .before .before .before .before .before .before .before .before .before .before .f1 .given .1)
-    ⨾ value num64M (c .before .before .before .before .before .before .before .before .before .before .before .before .before .before .before .before .before .before .before .before .before .before .before .before .before .before .before .before .before .before .before .before .before .be-u642 .ensures) (c .before .before .before .before .before .before .before .before .before .before .before .before .before .before .before .before .before .before .before .before .before .before .before .before .before .before .before .before .before .before .before .f2 .given .1)
-    ⨾ direction-named _ _ (value num8M (c .before .before .before .before .before .before .before .before .before .before .before .before .before .before .before .before .before .before .before .before .before .before .before .before .before .before .before .before .before .direction-at .ensures) (c .before .before .before .before .before .before .before .before .before .before .before .before .before .before .before .before .before .before .before .before .before .before .before .before .before .before .before .f3 .given .1)) (c .before .direction-of .ensures)
-    ⨾ value num64M (c .before .before .before .before .before .before .before .before .before .before .before .before .before .before .before .before .before .before .before .before .before .before .before .before .before .text8 .ensures) (c .before .before .before .before .before .before .before .before .before .before .before .before .before .before .before .before .before .before .before .before .before .before .before .f4 .given .1)
-    ⨾ value num32M (c .before .before .before .before .before .before .before .before .before .before .before .before .before .before .before .before .before .before .before .before .before .be-u32 .ensures) (c .before .before .before .before .before .before .before .before .before .before .before .before .before .before .before .before .before .before .before .f5 .given .1)
-    ⨾ value num32M (c .before .before .before .before .before .before .before .before .before .before .before .before .before .before .before .before .before .be-u322 .ensures) (c .before .before .before .before .before .before .before .before .before .before .before .before .before .before .before .f6 .given .1)
-    ⨾ value num32M (c .before .before .before .before .before .before .before .before .before .before .before .before .before .be-u323 .ensures) (c .before .before .before .before .before .before .before .before .before .before .before .f7 .given .1)
-    ⨾ imbalanceCross-named _ _ (value num8M (c .before .before .before .before .before .before .before .before .before .imbalance-cross-at .ensures) (c .before .before .before .before .before .before .before .f8 .given .1)) (c .cross-of .ensures)
-    ⨾ value num8M (c .before .before .before .before .before .be-u8 .ensures) (c .before .before .before .f9 .given .1)
+    (value num64M (p1 .before .before .be-u64 .ensures) (p1 .f1 .given .1)
+    ⨾ value num64M (p2 .before .before .be-u642 .ensures) (p2 .f2 .given .1)
+    ⨾ direction-named _ _ (value num8M (p3 .before .before .direction-at .ensures) (p3 .f3 .given .1)) (c .before .direction-of .ensures)
+    ⨾ value num64M (p4 .before .before .text8 .ensures) (p4 .f4 .given .1)
+    ⨾ value num32M (p5 .before .before .be-u32 .ensures) (p5 .f5 .given .1)
+    ⨾ value num32M (p6 .before .before .be-u322 .ensures) (p6 .f6 .given .1)
+    ⨾ value num32M (p7 .before .before .be-u323 .ensures) (p7 .f7 .given .1)
+    ⨾ imbalanceCross-named _ _ (value num8M (p8 .before .before .imbalance-cross-at .ensures) (p8 .f8 .given .1)) (c .cross-of .ensures)
+    ⨾ value num8M (p9 .before .before .be-u8 .ensures) (p9 .f9 .given .1)
     ⨾ end)
 
 pub parse-imbalance-indicator-spec : {M : Type 1} → statement M

@@ -46,9 +46,11 @@ returns-2 c =
 
 returns-3 : tie.Need-returns-3
 returns-3 c =
+    let p2 = c .before in
+    let p1 = p2 .before .before .before .before in
     body-reads 'X' _ refl
-    (value num64M (c .before .before .before .before .before .before .before .be-u64 .ensures) (c .before .before .before .before .before .f1 .given .1)
-    ⨾ value num32M (c .before .before .before .be-u32 .ensures) (c .before .f2 .given .1)
+    (value num64M (p1 .before .before .be-u64 .ensures) (p1 .f1 .given .1)
+    ⨾ value num32M (p2 .before .before .be-u32 .ensures) (p2 .f2 .given .1)
     ⨾ end)
 
 pub parse-order-cancelled-spec : {M : Type 1} → statement M

@@ -107,12 +107,17 @@ yes-no-of-requires c κs = search needs
 
 returns-6 : tie.Need-returns-6
 returns-6 c =
+    let p5 = c .before .before in
+    let p4 = p5 .before .before .before .before in
+    let p3 = p4 .before .before .before .before in
+    let p2 = p3 .before .before .before .before in
+    let p1 = p2 .before .before .before .before in
     body-reads 'C' _ refl
-    (value num64M (c .before .before .before .before .before .before .before .before .before .before .before .before .before .before .before .before .before .before .before .before .be-u64 .ensures) (c .before .before .before .before .before .before .before .before .before .before .before .before .before .before .before .before .before .before .f1 .given .1)
-    ⨾ value num32M (c .before .before .before .before .before .before .before .before .before .before .before .before .before .before .before .before .be-u32 .ensures) (c .before .before .before .before .before .before .before .before .before .before .before .before .before .before .f2 .given .1)
-    ⨾ value num64M (c .before .before .before .before .before .before .before .before .before .before .before .before .be-u642 .ensures) (c .before .before .before .before .before .before .before .before .before .before .f3 .given .1)
-    ⨾ yesNo-named _ _ (value num8M (c .before .before .before .before .before .before .before .before .yes-no-at .ensures) (c .before .before .before .before .before .before .f4 .given .1)) (c .yes-no-of .ensures)
-    ⨾ value num32M (c .before .before .before .before .be-u322 .ensures) (c .before .before .f5 .given .1)
+    (value num64M (p1 .before .before .be-u64 .ensures) (p1 .f1 .given .1)
+    ⨾ value num32M (p2 .before .before .be-u32 .ensures) (p2 .f2 .given .1)
+    ⨾ value num64M (p3 .before .before .be-u642 .ensures) (p3 .f3 .given .1)
+    ⨾ yesNo-named _ _ (value num8M (p4 .before .before .yes-no-at .ensures) (p4 .f4 .given .1)) (c .yes-no-of .ensures)
+    ⨾ value num32M (p5 .before .before .be-u322 .ensures) (p5 .f5 .given .1)
     ⨾ end)
 
 pub parse-order-executed-with-price-spec : {M : Type 1} → statement M

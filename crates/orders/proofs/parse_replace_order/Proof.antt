@@ -84,11 +84,15 @@ returns-4 c =
 
 returns-5 : tie.Need-returns-5
 returns-5 c =
+    let p4 = c .before in
+    let p3 = p4 .before .before .before .before in
+    let p2 = p3 .before .before .before .before in
+    let p1 = p2 .before .before .before .before in
     body-reads 'U' _ refl
-    (value num64M (c .before .before .before .before .before .before .before .before .before .before .before .before .before .before .before .be-u64 .ensures) (c .before .before .before .before .before .before .before .before .before .before .before .before .before .f1 .given .1)
-    ⨾ value num64M (c .before .before .before .before .before .before .before .before .before .before .before .be-u642 .ensures) (c .before .before .before .before .before .before .before .before .before .f2 .given .1)
-    ⨾ value num32M (c .before .before .before .before .before .before .before .be-u32 .ensures) (c .before .before .before .before .before .f3 .given .1)
-    ⨾ value num32M (c .before .before .before .be-u322 .ensures) (c .before .f4 .given .1)
+    (value num64M (p1 .before .before .be-u64 .ensures) (p1 .f1 .given .1)
+    ⨾ value num64M (p2 .before .before .be-u642 .ensures) (p2 .f2 .given .1)
+    ⨾ value num32M (p3 .before .before .be-u32 .ensures) (p3 .f3 .given .1)
+    ⨾ value num32M (p4 .before .before .be-u322 .ensures) (p4 .f4 .given .1)
     ⨾ end)
 
 pub parse-replace-order-spec : {M : Type 1} → statement M
