@@ -103,12 +103,17 @@ returns-5 c =
 
 returns-6 : tie.Need-returns-6
 returns-6 c =
+    let p5 = c .before in
+    let p4 = p5 .before .before .before .before in
+    let p3 = p4 .before .before .before .before in
+    let p2 = p3 .before .before .before .before in
+    let p1 = p2 .before .before .before .before in
     body-reads 'J' _ refl
-    (value num64M (c .before .before .before .before .before .before .before .before .before .before .before .before .before .before .before .before .before .before .before .text8 .ensures) (c .before .before .before .before .before .before .before .before .before .before .before .before .before .before .before .before .before .f1 .given .1)
-    ⨾ value num32M (c .before .before .before .before .before .before .before .before .before .before .before .before .before .before .before .be-u32 .ensures) (c .before .before .before .before .before .before .before .before .before .before .before .before .before .f2 .given .1)
-    ⨾ value num32M (c .before .before .before .before .before .before .before .before .before .before .before .be-u322 .ensures) (c .before .before .before .before .before .before .before .before .before .f3 .given .1)
-    ⨾ value num32M (c .before .before .before .before .before .before .before .be-u323 .ensures) (c .before .before .before .before .before .f4 .given .1)
-    ⨾ value num32M (c .before .before .before .be-u324 .ensures) (c .before .f5 .given .1)
+    (value num64M (p1 .before .before .text8 .ensures) (p1 .f1 .given .1)
+    ⨾ value num32M (p2 .before .before .be-u32 .ensures) (p2 .f2 .given .1)
+    ⨾ value num32M (p3 .before .before .be-u322 .ensures) (p3 .f3 .given .1)
+    ⨾ value num32M (p4 .before .before .be-u323 .ensures) (p4 .f4 .given .1)
+    ⨾ value num32M (p5 .before .before .be-u324 .ensures) (p5 .f5 .given .1)
     ⨾ end)
 
 pub parse-luld-auction-collar-spec : {M : Type 1} → statement M

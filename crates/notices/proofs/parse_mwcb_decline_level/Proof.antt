@@ -65,10 +65,13 @@ returns-3 c =
 
 returns-4 : tie.Need-returns-4
 returns-4 c =
+    let p3 = c .before in
+    let p2 = p3 .before .before .before .before in
+    let p1 = p2 .before .before .before .before in
     body-reads 'V' _ refl
-    (value num64M (c .before .before .before .before .before .before .before .before .before .before .before .be-u64 .ensures) (c .before .before .before .before .before .before .before .before .before .f1 .given .1)
-    ⨾ value num64M (c .before .before .before .before .before .before .before .be-u642 .ensures) (c .before .before .before .before .before .f2 .given .1)
-    ⨾ value num64M (c .before .before .before .be-u643 .ensures) (c .before .f3 .given .1)
+    (value num64M (p1 .before .before .be-u64 .ensures) (p1 .f1 .given .1)
+    ⨾ value num64M (p2 .before .before .be-u642 .ensures) (p2 .f2 .given .1)
+    ⨾ value num64M (p3 .before .before .be-u643 .ensures) (p3 .f3 .given .1)
     ⨾ end)
 
 pub parse-mwcb-decline-level-spec : {M : Type 1} → statement M

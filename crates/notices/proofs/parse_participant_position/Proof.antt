@@ -113,12 +113,17 @@ participant-state-of-requires c κs = search needs
 
 returns-6 : tie.Need-returns-6
 returns-6 c =
+    let p5 = c .before .before .before .before in
+    let p4 = p5 .before .before .before .before in
+    let p3 = p4 .before .before .before .before in
+    let p2 = p3 .before .before .before .before in
+    let p1 = p2 .before .before .before .before in
     body-reads 'L' _ refl
-    (value num32M (c .before .before .before .before .before .before .before .before .before .before .before .before .before .before .before .before .before .before .before .before .before .before .text4 .ensures) (c .before .before .before .before .before .before .before .before .before .before .before .before .before .before .before .before .before .before .before .before .f1 .given .1)
-    ⨾ value num64M (c .before .before .before .before .before .before .before .before .before .before .before .before .before .before .before .before .before .before .text8 .ensures) (c .before .before .before .before .before .before .before .before .before .before .before .before .before .before .before .before .f2 .given .1)
-    ⨾ yesNo-named _ _ (value num8M (c .before .before .before .before .before .before .before .before .before .before .before .before .before .before .yes-no-at .ensures) (c .before .before .before .before .before .before .before .before .before .before .before .before .f3 .given .1)) (c .before .before .yes-no-of .ensures)
-    ⨾ makerMode-named _ _ (value num8M (c .before .before .before .before .before .before .before .before .before .before .maker-mode-at .ensures) (c .before .before .before .before .before .before .before .before .f4 .given .1)) (c .before .maker-mode-of .ensures)
-    ⨾ participantState-named _ _ (value num8M (c .before .before .before .before .before .before .participant-state-at .ensures) (c .before .before .before .before .f5 .given .1)) (c .participant-state-of .ensures)
+    (value num32M (p1 .before .before .text4 .ensures) (p1 .f1 .given .1)
+    ⨾ value num64M (p2 .before .before .text8 .ensures) (p2 .f2 .given .1)
+    ⨾ yesNo-named _ _ (value num8M (p3 .before .before .yes-no-at .ensures) (p3 .f3 .given .1)) (c .before .before .yes-no-of .ensures)
+    ⨾ makerMode-named _ _ (value num8M (p4 .before .before .maker-mode-at .ensures) (p4 .f4 .given .1)) (c .before .maker-mode-of .ensures)
+    ⨾ participantState-named _ _ (value num8M (p5 .before .before .participant-state-at .ensures) (p5 .f5 .given .1)) (c .participant-state-of .ensures)
     ⨾ end)
 
 pub parse-participant-position-spec : {M : Type 1} → statement M

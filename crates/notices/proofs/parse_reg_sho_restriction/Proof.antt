@@ -50,9 +50,11 @@ action-of-requires c κs = search needs
 
 returns-3 : tie.Need-returns-3
 returns-3 c =
+    let p2 = c .before .before in
+    let p1 = p2 .before .before .before .before in
     body-reads 'Y' _ refl
-    (value num64M (c .before .before .before .before .before .before .before .before .text8 .ensures) (c .before .before .before .before .before .before .f1 .given .1)
-    ⨾ action-named _ _ (value num8M (c .before .before .before .before .action-at .ensures) (c .before .before .f2 .given .1)) (c .action-of .ensures)
+    (value num64M (p1 .before .before .text8 .ensures) (p1 .f1 .given .1)
+    ⨾ action-named _ _ (value num8M (p2 .before .before .action-at .ensures) (p2 .f2 .given .1)) (c .action-of .ensures)
     ⨾ end)
 
 pub parse-reg-sho-restriction-spec : {M : Type 1} → statement M

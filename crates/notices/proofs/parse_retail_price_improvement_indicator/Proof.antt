@@ -50,9 +50,11 @@ interest-of-requires c κs = search needs
 
 returns-3 : tie.Need-returns-3
 returns-3 c =
+    let p2 = c .before .before in
+    let p1 = p2 .before .before .before .before in
     body-reads 'N' _ refl
-    (value num64M (c .before .before .before .before .before .before .before .before .text8 .ensures) (c .before .before .before .before .before .before .f1 .given .1)
-    ⨾ interest-named _ _ (value num8M (c .before .before .before .before .interest-at .ensures) (c .before .before .f2 .given .1)) (c .interest-of .ensures)
+    (value num64M (p1 .before .before .text8 .ensures) (p1 .f1 .given .1)
+    ⨾ interest-named _ _ (value num8M (p2 .before .before .interest-at .ensures) (p2 .f2 .given .1)) (c .interest-of .ensures)
     ⨾ end)
 
 pub parse-retail-price-improvement-indicator-spec : {M : Type 1} → statement M

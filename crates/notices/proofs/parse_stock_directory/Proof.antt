@@ -306,21 +306,35 @@ yes-no-of-requires-2 c κs = search needs
 
 returns-15 : tie.Need-returns-15
 returns-15 c =
+    let p14 = c .before .before .before .before .before .before .before .before .before .before .before in
+    let p13 = p14 .before .before .before .before in
+    let p12 = p13 .before .before .before .before in
+    let p11 = p12 .before .before .before .before in
+    let p10 = p11 .before .before .before .before in
+    let p9 = p10 .before .before .before .before in
+    let p8 = p9 .before .before .before .before in
+    let p7 = p8 .before .before .before .before in
+    let p6 = p7 .before .before .before .before in
+    let p5 = p6 .before .before .before .before in
+    let p4 = p5 .before .before .before .before in
+    let p3 = p4 .before .before .before .before in
+    let p2 = p3 .before .before .before .before in
+    let p1 = p2 .before .before .before .before in
     body-reads 'R' _ refl
-    (value num64M (c .before .before .before .before .before .before .before .before .before .before .before .before .before .before .before .before .before .before .before .before .before .before .before .before .before .before .before .before .before .before .before .before .before .before .before .before .before .before .before .before .before .before .before .before .before .before .before .before .before .before .before .before .before .before .before .before .before .before .before .before .before .before .before .before .before .text8 .ensures) (c .before .before .before .before .before .before .before .before .before .before .before .before .before .before .before .before .before .before .before .before .before .before .before .before .before .before .before .before .before .before .before .before .before .before .before .before .before .before .before .before .before .before .before .before .before .before .before .before .before .before .before .before .before .before .before .before .before .before .before .before .before .before .before .f1 .given .1)
-    ⨾ category-named _ _ (value num8M (c .before .before .before .before .before .before .before .before .before .before .before .before .before .before .before .before .before .before .before .before .before .before .before .before .before .before .before .before .before .before .before .before .before .before .before .before .before .before .before .before .before .before .before .before .before .before .before .before .before .before .before .before .before .before .before .before .before .before .before .before .before .category-at .ensures) (c .before .before .before .before .before .before .before .before .before .before .before .before .before .before .before .before .before .before .before .before .before .before .before .before .before .before .before .before .before .before .before .before .before .before .before .before .before .before .before .before .before .before .before .before .before .before .before .before .before .before .before .before .before .before .before .before .before .before .before .f2 .given .1)) (c .before .before .before .before .before .before .before .before .before .category-of .ensures)
-    ⨾ status-named _ _ (value num8M (c .before .before .before .before .before .before .before .before .before .before .before .before .before .before .before .before .before .before .before .before .before .before .before .before .before .before .before .before .before .before .before .before .before .before .before .before .before .before .before .before .before .before .before .before .before .before .before .before .before .before .before .before .before .before .before .before .before .status-at .ensures) (c .before .before .before .before .before .before .before .before .before .before .before .before .before .before .before .before .before .before .before .before .before .before .before .before .before .before .before .before .before .before .before .before .before .before .before .before .before .before .before .before .before .before .before .before .before .before .before .before .before .before .before .before .before .before .before .f3 .given .1)) (c .before .before .before .before .before .before .before .before .status-of .ensures)
-    ⨾ value num32M (c .before .before .before .before .before .before .before .before .before .before .before .before .before .before .before .before .before .before .before .before .before .before .before .before .before .before .before .before .before .before .before .before .before .before .before .before .before .before .before .before .before .before .before .before .before .before .before .before .before .before .before .before .before .be-u32 .ensures) (c .before .before .before .before .before .before .before .before .before .before .before .before .before .before .before .before .before .before .before .before .before .before .before .before .before .before .before .before .before .before .before .before .before .before .before .before .before .before .before .before .before .before .before .before .before .before .before .before .before .before .before .f4 .given .1)
-    ⨾ yesNo-named _ _ (value num8M (c .before .before .before .before .before .before .before .before .before .before .before .before .before .before .before .before .before .before .before .before .before .before .before .before .before .before .before .before .before .before .before .before .before .before .before .before .before .before .before .before .before .before .before .before .before .before .before .before .before .yes-no-at .ensures) (c .before .before .before .before .before .before .before .before .before .before .before .before .before .before .before .before .before .before .before .before .before .before .before .before .before .before .before .before .before .before .before .before .before .before .before .before .before .before .before .before .before .before .before .before .before .before .before .f5 .given .1)) (c .before .before .before .before .before .before .before .yes-no-of .ensures)
-    ⨾ class-named _ _ (value num8M (c .before .before .before .before .before .before .before .before .before .before .before .before .before .before .before .before .before .before .before .before .before .before .before .before .before .before .before .before .before .before .before .before .before .before .before .before .before .before .before .before .before .before .before .before .before .class-at .ensures) (c .before .before .before .before .before .before .before .before .before .before .before .before .before .before .before .before .before .before .before .before .before .before .before .before .before .before .before .before .before .before .before .before .before .before .before .before .before .before .before .before .before .before .before .f6 .given .1)) (c .before .before .before .before .before .before .class-of .ensures)
-    ⨾ value subtypeM (c .before .before .before .before .before .before .before .before .before .before .before .before .before .before .before .before .before .before .before .before .before .before .before .before .before .before .before .before .before .before .before .before .before .before .before .before .before .before .before .before .before .subtype-at .ensures) (c .before .before .before .before .before .before .before .before .before .before .before .before .before .before .before .before .before .before .before .before .before .before .before .before .before .before .before .before .before .before .before .before .before .before .before .before .before .before .before .f7 .given .1)
-    ⨾ authenticity-named _ _ (value num8M (c .before .before .before .before .before .before .before .before .before .before .before .before .before .before .before .before .before .before .before .before .before .before .before .before .before .before .before .before .before .before .before .before .before .before .before .before .before .authenticity-at .ensures) (c .before .before .before .before .before .before .before .before .before .before .before .before .before .before .before .before .before .before .before .before .before .before .before .before .before .before .before .before .before .before .before .before .before .before .before .f8 .given .1)) (c .before .before .before .before .before .authenticity-of .ensures)
-    ⨾ flag-named _ _ (value num8M (c .before .before .before .before .before .before .before .before .before .before .before .before .before .before .before .before .before .before .before .before .before .before .before .before .before .before .before .before .before .before .before .before .before .flag-at .ensures) (c .before .before .before .before .before .before .before .before .before .before .before .before .before .before .before .before .before .before .before .before .before .before .before .before .before .before .before .before .before .before .before .f9 .given .1)) (c .before .before .before .before .flag-of .ensures)
-    ⨾ flag-named _ _ (value num8M (c .before .before .before .before .before .before .before .before .before .before .before .before .before .before .before .before .before .before .before .before .before .before .before .before .before .before .before .before .before .flag-at2 .ensures) (c .before .before .before .before .before .before .before .before .before .before .before .before .before .before .before .before .before .before .before .before .before .before .before .before .before .before .before .f10 .given .1)) (c .before .before .before .flag-of2 .ensures)
-    ⨾ tier-named _ _ (value num8M (c .before .before .before .before .before .before .before .before .before .before .before .before .before .before .before .before .before .before .before .before .before .before .before .before .before .tier-at .ensures) (c .before .before .before .before .before .before .before .before .before .before .before .before .before .before .before .before .before .before .before .before .before .before .before .f11 .given .1)) (c .before .before .tier-of .ensures)
-    ⨾ etp-named _ _ (value num8M (c .before .before .before .before .before .before .before .before .before .before .before .before .before .before .before .before .before .before .before .before .before .etp-at .ensures) (c .before .before .before .before .before .before .before .before .before .before .before .before .before .before .before .before .before .before .before .f12 .given .1)) (c .before .flag-of3 .ensures)
-    ⨾ value num32M (c .before .before .before .before .before .before .before .before .before .before .before .before .before .before .before .before .before .be-u322 .ensures) (c .before .before .before .before .before .before .before .before .before .before .before .before .before .before .before .f13 .given .1)
-    ⨾ yesNo-named _ _ (value num8M (c .before .before .before .before .before .before .before .before .before .before .before .before .before .yes-no-at2 .ensures) (c .before .before .before .before .before .before .before .before .before .before .before .f14 .given .1)) (c .yes-no-of2 .ensures)
+    (value num64M (p1 .before .before .text8 .ensures) (p1 .f1 .given .1)
+    ⨾ category-named _ _ (value num8M (p2 .before .before .category-at .ensures) (p2 .f2 .given .1)) (c .before .before .before .before .before .before .before .before .before .category-of .ensures)
+    ⨾ status-named _ _ (value num8M (p3 .before .before .status-at .ensures) (p3 .f3 .given .1)) (c .before .before .before .before .before .before .before .before .status-of .ensures)
+    ⨾ value num32M (p4 .before .before .be-u32 .ensures) (p4 .f4 .given .1)
+    ⨾ yesNo-named _ _ (value num8M (p5 .before .before .yes-no-at .ensures) (p5 .f5 .given .1)) (c .before .before .before .before .before .before .before .yes-no-of .ensures)
+    ⨾ class-named _ _ (value num8M (p6 .before .before .class-at .ensures) (p6 .f6 .given .1)) (c .before .before .before .before .before .before .class-of .ensures)
+    ⨾ value subtypeM (p7 .before .before .subtype-at .ensures) (p7 .f7 .given .1)
+    ⨾ authenticity-named _ _ (value num8M (p8 .before .before .authenticity-at .ensures) (p8 .f8 .given .1)) (c .before .before .before .before .before .authenticity-of .ensures)
+    ⨾ flag-named _ _ (value num8M (p9 .before .before .flag-at .ensures) (p9 .f9 .given .1)) (c .before .before .before .before .flag-of .ensures)
+    ⨾ flag-named _ _ (value num8M (p10 .before .before .flag-at2 .ensures) (p10 .f10 .given .1)) (c .before .before .before .flag-of2 .ensures)
+    ⨾ tier-named _ _ (value num8M (p11 .before .before .tier-at .ensures) (p11 .f11 .given .1)) (c .before .before .tier-of .ensures)
+    ⨾ etp-named _ _ (value num8M (p12 .before .before .etp-at .ensures) (p12 .f12 .given .1)) (c .before .flag-of3 .ensures)
+    ⨾ value num32M (p13 .before .before .be-u322 .ensures) (p13 .f13 .given .1)
+    ⨾ yesNo-named _ _ (value num8M (p14 .before .before .yes-no-at2 .ensures) (p14 .f14 .given .1)) (c .yes-no-of2 .ensures)
     ⨾ end)
 
 pub parse-stock-directory-spec : {M : Type 1} → statement M
