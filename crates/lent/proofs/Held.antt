@@ -1,5 +1,5 @@
--- The laws that each walk over a lent `Stream` cites: the borrow opened and closed, a part of the record loaded and stored back, and what is known of
--- the record and of a `Step` that a callee returned.
+-- The laws that each walk over a lent `Stream` cites: the borrow opened and closed, a local lent and given back, a part of the record loaded and stored
+-- back, and what is known of the record and of a `Step` that a callee returned.
 -- Assumes nothing.
 use mathlib.Core.Path.{_≡_, refl, sym, ap, subst}
 use mathlib.Core.List.{List, [], _∷_}
@@ -233,8 +233,9 @@ module _ {M : Type 1} {𝓤 : URA M} {H : Heap 𝓤} {A : Atoms 𝓤} {K : Type 
       (land t at (init t n {τ = S′.mir} {b = l} {o = 0} {v = step-val r} room (step-typed 𝓤 H A W r (subst (Is S.the-row r) e is))))
 
   -- `_i = _j.1`, the answer of the Step in the local j at entry n, where entry m is room for the local i
-  pub answers : K → {i j l l′ : ℕ} {v : Val} (n m : ℕ) (r : Step) → Is S.the-row r (v ∷ []) → nth 𝓤 H A n Γ ≡ step-at 𝓤 l r → nth 𝓤 H A m Γ ≡ ‵ (froom N′.mir l′ 0)
-      → Finds K W Γ E (place j (field 1 ∷ [])) (N′.mir, l, 48) → Finds K W Γ E (place i []) (N′.mir, l′, 0)
+  pub answers : K → {i j l l′ : ℕ} {v : Val} (n m : ℕ) (r : Step) → Is S.the-row r (v ∷ []) → nth 𝓤 H A n Γ ≡ step-at 𝓤 l r
+      → nth 𝓤 H A m Γ ≡ ‵ (froom N′.mir l′ 0) → Finds K W Γ E (place j (field 1 ∷ [])) (N′.mir, l, 48)
+      → Finds K W Γ E (place i []) (N′.mir, l′, 0)
       → Stepping K W (put 𝓤 H A m (‵ (fat fullShare N′.mir l′ 0 (answer-val (r .answer)))) Γ) (runs C Λ E rest p)
       Γ (runs C Λ E (seq (assign (place i []) (rvOpd (copy (place j (field 1 ∷ []))))) rest) p)
   answers t {i} {j} {l} {l′} n m r is held room at to =

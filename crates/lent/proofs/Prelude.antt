@@ -16,7 +16,8 @@ pub use prog.Wp.{Heap, Calls, Loops, WpFn}
 pub use ghost.Atoms.{Atoms, sem}
 pub use contract.Monad.{Fun}
 pub use contract.Running.{givenOf, tables}
-pub use types.Kit.{Item, Given, ‵, raw, _⊛_, _$_, _∵_, !, qed, by, move, keep, drop, use0, use1, use2, split, join, rewrite, fsplit, fsplit3, fjoin, fjoin3, feqI, suffices, frame, done, use3, ⋆, feqL}
+pub use types.Kit.{Item, Given, ‵, raw, _⊛_, _$_, _∵_, !, qed, by, move, keep, drop, use0, use1, use2, use3}
+pub use types.Kit.{split, join, rewrite, fsplit, fsplit3, fjoin, fjoin3, feqI, feqL, suffices, frame, done, ⋆}
 pub use types.Run.{look, init, stop, hop, fld, from, load, of-opd, and-then, no-more, assigns, land, returns, enter, alloc1, alloc0, params1, pass1, pass0, free0, addr}
 pub use types.Part.{whole, sub, look-in, agg}
 pub use sound.WpLaws.{FmC}

@@ -89,7 +89,8 @@ module _ {M : Type 1} (𝓤 : URA M) (H : Heap 𝓤) (A : Atoms 𝓤) (at-mem : 
           -- _2 = fresh(); _1 = _2
           use0 W (raw (Fresh .pre to-fresh)) goes-fresh $
           calls-at ! fm Fresh known-fresh to-fresh (no-more !) (λ v.
-          hears 𝓤 H A n.ended (n.clauses 𝓤 H A at-mem run) to-fresh ! tt (λ h _. h ≡ freshState) (λ h _. id⊢ 𝓤 _) (λ h _ e₀. move ! (1 ∷ 2 ∷ []) $ drop ! $ drop ! $
+          hears 𝓤 H A n.ended (n.clauses 𝓤 H A at-mem run) to-fresh ! tt (λ h _. h ≡ freshState) (λ h _. id⊢ 𝓤 _) (λ h _ e₀.
+          move ! (1 ∷ 2 ∷ []) $ drop ! $ drop ! $
           peeks ! T.the-row (Is T.the-row) (shows 𝓤 H A T.the-row) h (v ∷ []) (λ is.
           land ! (from ! (stop !)) (init ! 7 {τ = T′.mir} refl (state-typed 𝓤 H A W h is)) $
           assigns ! (of-opd ! (load ! (from ! (stop !)) (look ! 7 refl))) (from ! (stop !)) (init ! 9 {τ = T′.mir} refl (state-typed 𝓤 H A W h is)) $
