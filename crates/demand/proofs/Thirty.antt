@@ -10,10 +10,10 @@ use borrow.Author.Tests.{eqb-true, eqb-false}
 use lib.ListN.{length, drop, getD, length-drop}
 use lib.Seq.{getD-drop}
 use lib.Dec.{eqb}
-use Rattle.format.proofs.Tests.{le-or-lt}
+use Rattle.format.proofs.Tests.{and-split, le-or-lt}
 use Rattle.walk.specs.declared.Walk.{Walk}
 use Rattle.walk.specs.Walk.{frameSize, zeros, soundOf}
-use Rattle.walk.proofs.Cases.{and-split, sound-says, sound-rest}
+use Rattle.walk.proofs.Cases.{sound-says, sound-rest}
 use Rattle.demand.specs.Promises.{Thirty, past, unclean, crowded, miscounted}
 
 -- where the test for zeros fails, a byte is not zero; where it passes, each is

@@ -1,7 +1,7 @@
 -- Small facts about tests that every layer's laws use.
 -- Assumes nothing.
 use mathlib.Core.Path.{_≡_, refl}
-use mathlib.Core.Bool.{Bool, true, false, _&&_}
+use mathlib.Core.Bool.{Bool, true, false, _&&_, false≢true}
 use mathlib.Core.Logic.{_⊎_, inl, inr}
 use Prim.Native.Nat.{ℕ, _≤_, _<_}
 use lib.Dec.{T, leb}
@@ -10,6 +10,10 @@ use borrow.Author.Tests.{leb-true, leb-false}
 pub both : (a b : Bool) → T (a && b) → T a × T b
 both true b t = (tt, t)
 both false b t = absurd t
+
+pub and-split : (a b : Bool) → a && b ≡ true → (a ≡ true) × (b ≡ true)
+and-split true b e = (refl, e)
+and-split false b e = absurd (false≢true e)
 
 pub is-true : (t : Bool) → T t → t ≡ true
 is-true true h = refl

@@ -8,11 +8,12 @@ use native.Mathlib.Omega.{arith}
 use borrow.Author.Tests.{lt-ltb, eqb-true}
 use lib.Dec.{eqb}
 use lib.ListN.{length, replicate}
+use Rattle.format.proofs.Tests.{and-split}
 use Rattle.reader.specs.declared.Window.{Window}
 use Rattle.walk.specs.declared.Walk.{Walk}
 use Rattle.walk.specs.Walk.{frameSize, zeros, zeroFrom, soundOf, roomOf, readyOf, Ready, put, judgeOf, doneOf, moreOf, movedOf, stepOf}
 use Rattle.walk.proofs.Held.{put-there, put-front}
-use Rattle.walk.proofs.Cases.{and-split, ready-of, sound-rest, step-30, step-33, step-moves, moved-more, moved-done}
+use Rattle.walk.proofs.Cases.{ready-of, sound-rest, step-30, step-33, step-moves, moved-more, moved-done}
 use Rattle.lines.specs.Blocks.{refusesOf, startOf}
 
 -- ---- what `ready` says

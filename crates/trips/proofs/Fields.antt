@@ -2,7 +2,7 @@
 -- Assumes nothing.
 use mathlib.Core.Path.{_≡_, refl, sym, ap, _∙_, subst}
 use mathlib.Core.List.{List, [], _∷_, _++_, append-assoc}
-use mathlib.Core.Bool.{Bool, true, false, cond, not, _&&_, false≢true}
+use mathlib.Core.Bool.{Bool, true, false, cond, not, _&&_}
 use Prim.Native.Nat.{ℕ, zero, suc, _+_, _*_, _^_, _/_, _%_, _≤_, _<_}
 use native.Mathlib.Nat.{pow-suc}
 use native.Mathlib.Numerals.{add-one}
@@ -17,6 +17,7 @@ use Rattle.format.specs.Layout.{Kind, num, time, text, code, etp, subtype, skip
 use Rattle.format.proofs.Bytes.{Bytes, be-snoc, part-split, part-more}
 use Rattle.format.proofs.Fields.{field-judged}
 use Rattle.format.proofs.Runs.{Reads, end, _⨾_}
+use Rattle.format.proofs.Tests.{and-split}
 use Rattle.laws.proofs.Rows.{field-has}
 use Rattle.pen.specs.Encode.{digits, kept, valueOf, rest, write, textFine, textsFine, Sized}
 use Rattle.pen.proofs.Digits.{length-digits}
@@ -35,10 +36,6 @@ codeFine skip v = true
 abbrev pub codesFine : List Kind → List ℕ → Bool
 codesFine [] vs = true
 codesFine (k ∷ ks) vs = codeFine k (valueOf k vs) && codesFine ks (rest k vs)
-
-pub and-split : (a b : Bool) → a && b ≡ true → (a ≡ true) × (b ≡ true)
-and-split true b e = (refl, e)
-and-split false b e = absurd (false≢true e)
 
 -- the values that a field gives
 abbrev given : Kind → List ℕ → List ℕ

@@ -12,6 +12,7 @@ use borrow.Author.Tests.{eqb-true}
 use Rattle.format.specs.Ascii.{'I'}
 use Rattle.format.specs.Codes.{side, yesNo, tradingState, direction, imbalanceCross, qualifier, makerMode, participantState, interest, cross, category, status, class, authenticity, flag, tier, event, level, action, etpFlag, subtypes}
 use Rattle.format.specs.Layout.{etp, member}
+use Rattle.format.proofs.Tests.{and-split}
 use Rattle.pen.specs.Encode.{layout}
 use Rattle.codes.specs.Names.{nameOf, eventByte, eventNames, eventFrom, categoryByte, categoryNames, categoryFrom, statusByte, statusNames, statusFrom, classByte, classNames, classFrom, tierByte, tierNames, tierFrom, makerModeByte, makerModeNames, makerModeFrom, participantStateByte, participantStateNames, participantStateFrom, actionByte, actionNames, actionFrom, tradingStateByte, tradingStateNames, tradingStateFrom, sideByte, sideNames, sideFrom, directionByte, directionNames, directionFrom, crossByte, crossNames, crossFrom, qualifierByte, qualifierNames, qualifierFrom, levelByte, levelNames, levelFrom, interestByte, interestNames, interestFrom, flagByte, flagNames, flagFrom, subtypeByte, subtypeNames, subtypeFrom, yesNoByte, authenticityByte}
 use Rattle.codes.specs.declared.CrossType.{CrossType}
@@ -25,7 +26,7 @@ use Rattle.records.specs.declared.Body.the-variants as Body·
 use Rattle.records.specs.Values.{orderValues, values}
 use Rattle.writer.specs.Writing.{tagOf, fieldsOf, intraday}
 use Rattle.writer.proofs.Says.{count, body-count}
-use Rattle.trips.proofs.Fields.{codeFine, codesFine, and-split}
+use Rattle.trips.proofs.Fields.{codeFine, codesFine}
 
 -- every name's byte is a code of the set: a test over the names
 abbrev Legal : {A : Type 0} → (A → ℕ) → List ℕ → Type 0

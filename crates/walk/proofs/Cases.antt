@@ -2,12 +2,13 @@
 -- Assumes nothing.
 use Prim.Native.Nat.{ℕ, zero, suc, _≤_, _<_, _-_, _+_, _*_, _^_, min}
 use mathlib.Core.Path.{_≡_, refl, sym, _∙_}
-use mathlib.Core.Bool.{Bool, true, false, cond, _&&_, false≢true}
+use mathlib.Core.Bool.{Bool, true, false, cond}
 use mathlib.Core.List.{List}
 use native.Mathlib.Omega.{arith}
 use borrow.Author.Tests.{ne-eqb, leb-true, leb-false, lt-ltb, le-ltb, ltb-true, le-leb, lt-leb}
 use lib.ListN.{length}
 use lib.Dec.{leb, eqb}
+use Rattle.format.proofs.Tests.{and-split}
 use Rattle.reader.specs.declared.Window.{Window}
 use Rattle.walk.specs.declared.Walk.{Walk}
 use Rattle.walk.specs.declared.Verdict.{Verdict}
@@ -50,10 +51,6 @@ room-same o s n f h = go (leb n (18446744073709551615 - o - s)) refl
     go : (b : Bool) → leb n (18446744073709551615 - o - s) ≡ b → leb n (18446744073709551615 - o - s) ≡ roomOf o s n
     go true e = e ∙ sym (lt-ltb (o + s + n) (2 ^ 64) (omega (arith, leb-true n (18446744073709551615 - o - s) e)))
     go false e = e ∙ sym (le-ltb (o + s + n) (2 ^ 64) (omega (arith, leb-false n (18446744073709551615 - o - s) e)))
-
-pub and-split : (a b : Bool) → (a && b) ≡ true → (a ≡ true) × (b ≡ true)
-and-split true b e = (refl, e)
-and-split false b e = (e, absurd (false≢true e))
 
 -- what the test for 30 shows where it passes
 pub sound-says : (w : Walk) → soundOf w ≡ true
