@@ -1,29 +1,14 @@
-// What the stream answers, as numbers: a kind and at most 18 values. Of a message they are its header's four and its body's fields, in the order in
-// which the Rust declares them, an enum as the place of its name, true as 0 and false as 1. Who shows a message then needs none of its types.
+// What the stream answers, as numbers. Of a message they are the values that its definition has: the header's four, then the body's, which begin with
+// the body's own tag, each code as its byte, and zeros behind. Who shows a message then needs none of its types.
 ghost use mathlib.Core.Path.{_≡_};
+ghost use mathlib.Core.List.{[], _∷_};
 ghost use lib.ListN.{length};
 ghost use Rattle.stream.specs.Next.{nextOf};
 ghost use Rattle.stream.specs.Room.{roomOf, roomBuffer};
 ghost use Rattle.stream.specs.Told.{toldOf, failedOf};
-ghost use Rattle.flat.specs.Ranks.{eventRank, categoryRank, statusRank, classRank, subtypeRank, tierRank, makerModeRank, participantStateRank, actionRank, tradingStateRank, sideRank, directionRank, crossRank, qualifierRank, levelRank, interestRank, flagRank, yesNoRank};
-ghost use Rattle.flat.specs.Flatten.{upTo1, upTo2, upTo3, upTo5, attributedOf, addOrderOf, crossTradeOf, imbalanceOf, ipoOf, nonCrossTradeOf, positionOf, replaceOrderOf, retailOf, directoryOf, valuesOf, saidOf, messageOf, flatOf, stepFlat};
-use codes::CrossType;
-use codes::EventCode;
-use codes::FinancialStatus;
-use codes::Flag;
-use codes::ImbalanceDirection;
-use codes::InterestFlag;
-use codes::IpoReleaseQualifier;
-use codes::IssueClassification;
-use codes::IssueSubType;
-use codes::LevelBreached;
-use codes::LuldRefPriceTier;
-use codes::MarketCategory;
-use codes::MarketMakerMode;
-use codes::MarketParticipantState;
-use codes::RegShoAction;
-use codes::Side;
-use codes::TradingState;
+ghost use Rattle.records.specs.declared.Body.the-variants as Body·;
+ghost use Rattle.records.specs.Values.{orderValues, values};
+ghost use Rattle.flat.specs.Flatten.{bodyNumbers, saidOf, messageOf, flatOf, stepFlat};
 use records::AddOrder;
 use records::Body;
 use records::CrossTrade;
@@ -40,589 +25,222 @@ use stream::Answer;
 use stream::Step;
 use stream::Stream;
 
-// The kinds: a message's is 0 to 20, by its body; an add order with attribution has one of its own. Nothing more and refused, whose first two values
-// are number and place, and wants and ready, that have none.
-pub const LAST: u64 = 20;
+// The kinds: a message's is its body's tag, so at least FIRST. Of the others, nothing more and refused, whose first two numbers are number and place,
+// and wants and ready, that have none.
+pub const FIRST: u64 = 65;
 
-pub const NOTHING: u64 = 21;
+pub const NOTHING: u64 = 0;
 
-pub const REFUSED: u64 = 22;
+pub const REFUSED: u64 = 1;
 
-pub const WANTS: u64 = 23;
+pub const WANTS: u64 = 2;
 
-pub const READY: u64 = 24;
+pub const READY: u64 = 3;
 
 pub struct Flat {
     pub state: Stream,
     pub kind: u64,
-    pub v: [u64; 18],
+    pub v: [u64; 19],
 }
 
-// A body's kind and values; the header's places are zero.
-struct Values {
-    kind: u64,
-    v: [u64; 18],
-}
-
-fn event(x: EventCode) -> u64
-    ensures { λ r. ⌜ r ≡ eventRank x ⌝ }
+// A body's tag and at most nine values; the header's places are zero.
+fn numbers(
+    tag: u8,
+    a: u64,
+    b: u64,
+    c: u64,
+    d: u64,
+    e: u64,
+    f: u64,
+    g: u64,
+    h: u64,
+    i: u64,
+) -> [u64; 19]
+    ensures { λ r. ⌜ r ≡ bodyNumbers (tag ∷ a ∷ b ∷ c ∷ d ∷ e ∷ f ∷ g ∷ h ∷ i ∷ []) ⌝ }
 {
-    match x {
-        EventCode::StartOfMessages => 0,
-        EventCode::StartOfSystemHours => 1,
-        EventCode::StartOfMarketHours => 2,
-        EventCode::EndOfMarketHours => 3,
-        EventCode::EndOfSystemHours => 4,
-        EventCode::EndOfMessages => 5,
-    }
+    [
+        0,
+        0,
+        0,
+        0,
+        tag as u64,
+        a,
+        b,
+        c,
+        d,
+        e,
+        f,
+        g,
+        h,
+        i,
+        0,
+        0,
+        0,
+        0,
+        0,
+    ]
 }
 
-fn category(x: MarketCategory) -> u64
-    ensures { λ r. ⌜ r ≡ categoryRank x ⌝ }
-{
-    match x {
-        MarketCategory::NasdaqGlobalSelect => 0,
-        MarketCategory::NasdaqGlobalMarket => 1,
-        MarketCategory::NasdaqCapitalMarket => 2,
-        MarketCategory::Nyse => 3,
-        MarketCategory::NyseMkt => 4,
-        MarketCategory::NyseArca => 5,
-        MarketCategory::BatsZExchange => 6,
-        MarketCategory::InvestorsExchange => 7,
-        MarketCategory::Unavailable => 8,
-    }
-}
-
-fn status(x: FinancialStatus) -> u64
-    ensures { λ r. ⌜ r ≡ statusRank x ⌝ }
-{
-    match x {
-        FinancialStatus::Normal => 0,
-        FinancialStatus::Deficient => 1,
-        FinancialStatus::Delinquent => 2,
-        FinancialStatus::Bankrupt => 3,
-        FinancialStatus::Suspended => 4,
-        FinancialStatus::DeficientBankrupt => 5,
-        FinancialStatus::DeficientDelinquent => 6,
-        FinancialStatus::DelinquentBankrupt => 7,
-        FinancialStatus::DeficientDelinquentBankrupt => 8,
-        FinancialStatus::EtpSuspended => 9,
-        FinancialStatus::Unavailable => 10,
-    }
-}
-
-fn class(x: IssueClassification) -> u64
-    ensures { λ r. ⌜ r ≡ classRank x ⌝ }
-{
-    match x {
-        IssueClassification::AmericanDepositaryShare => 0,
-        IssueClassification::Bond => 1,
-        IssueClassification::CommonStock => 2,
-        IssueClassification::DepositoryReceipt => 3,
-        IssueClassification::A144 => 4,
-        IssueClassification::LimitedPartnership => 5,
-        IssueClassification::Notes => 6,
-        IssueClassification::OrdinaryShare => 7,
-        IssueClassification::PreferredStock => 8,
-        IssueClassification::OtherSecurities => 9,
-        IssueClassification::Right => 10,
-        IssueClassification::SharesOfBeneficialInterest => 11,
-        IssueClassification::ConvertibleDebenture => 12,
-        IssueClassification::Unit => 13,
-        IssueClassification::UnitsPerBenifInt => 14,
-        IssueClassification::Warrant => 15,
-    }
-}
-
-fn subtype(x: IssueSubType) -> u64
-    ensures { λ r. ⌜ r ≡ subtypeRank x ⌝ }
-{
-    match x {
-        IssueSubType::PreferredTrustSecurities => 0,
-        IssueSubType::AlphaIndexETNs => 1,
-        IssueSubType::IndexBasedDerivative => 2,
-        IssueSubType::CommonShares => 3,
-        IssueSubType::CommodityBasedTrustShares => 4,
-        IssueSubType::CommodityFuturesTrustShares => 5,
-        IssueSubType::CommodityLinkedSecurities => 6,
-        IssueSubType::CommodityIndexTrustShares => 7,
-        IssueSubType::CollateralizedMortgageObligation => 8,
-        IssueSubType::CurrencyTrustShares => 9,
-        IssueSubType::CommodityCurrencyLinkedSecurities => 10,
-        IssueSubType::CurrencyWarrants => 11,
-        IssueSubType::GlobalDepositaryShares => 12,
-        IssueSubType::ETFPortfolioDepositaryReceipt => 13,
-        IssueSubType::EquityGoldShares => 14,
-        IssueSubType::ETNEquityIndexLinkedSecurities => 15,
-        IssueSubType::ExchangeTradedManagedFunds => 16,
-        IssueSubType::ExchangeTradedNotes => 17,
-        IssueSubType::EquityUnits => 18,
-        IssueSubType::Holdrs => 19,
-        IssueSubType::ETNFixedIncomeLinkedSecurities => 20,
-        IssueSubType::ETNFuturesLinkedSecurities => 21,
-        IssueSubType::GlobalShares => 22,
-        IssueSubType::ETFIndexFundShares => 23,
-        IssueSubType::InterestRate => 24,
-        IssueSubType::IndexWarrant => 25,
-        IssueSubType::IndexLinkedExchangeableNotes => 26,
-        IssueSubType::CorporateBackedTrustSecurity => 27,
-        IssueSubType::ContingentLitigationRight => 28,
-        IssueSubType::Llc => 29,
-        IssueSubType::EquityBasedDerivative => 30,
-        IssueSubType::ManagedFundShares => 31,
-        IssueSubType::ETNMultiFactorIndexLinkedSecurities => 32,
-        IssueSubType::ManagedTrustSecurities => 33,
-        IssueSubType::NYRegistryShares => 34,
-        IssueSubType::OpenEndedMutualFund => 35,
-        IssueSubType::PrivatelyHeldSecurity => 36,
-        IssueSubType::PoisonPill => 37,
-        IssueSubType::PartnershipUnits => 38,
-        IssueSubType::ClosedEndFunds => 39,
-        IssueSubType::RegS => 40,
-        IssueSubType::CommodityRedeemableCommodityLinkedSecurities => 41,
-        IssueSubType::ETNRedeemableFuturesLinkedSecurities => 42,
-        IssueSubType::REIT => 43,
-        IssueSubType::CommodityRedeemableCurrencyLinkedSecurities => 44,
-        IssueSubType::Seed => 45,
-        IssueSubType::SpotRateClosing => 46,
-        IssueSubType::SpotRateIntraday => 47,
-        IssueSubType::TrackingStock => 48,
-        IssueSubType::TrustCertificates => 49,
-        IssueSubType::TrustUnits => 50,
-        IssueSubType::Portal => 51,
-        IssueSubType::ContingentValueRight => 52,
-        IssueSubType::TrustIssuedReceipts => 53,
-        IssueSubType::WorldCurrencyOption => 54,
-        IssueSubType::Trust => 55,
-        IssueSubType::Other => 56,
-        IssueSubType::NotApplicable => 57,
-    }
-}
-
-fn tier(x: LuldRefPriceTier) -> u64
-    ensures { λ r. ⌜ r ≡ tierRank x ⌝ }
-{
-    match x {
-        LuldRefPriceTier::Tier1 => 0,
-        LuldRefPriceTier::Tier2 => 1,
-        LuldRefPriceTier::Na => 2,
-    }
-}
-
-fn maker_mode(x: MarketMakerMode) -> u64
-    ensures { λ r. ⌜ r ≡ makerModeRank x ⌝ }
-{
-    match x {
-        MarketMakerMode::Normal => 0,
-        MarketMakerMode::Passive => 1,
-        MarketMakerMode::Syndicate => 2,
-        MarketMakerMode::Presyndicate => 3,
-        MarketMakerMode::Penalty => 4,
-    }
-}
-
-fn participant_state(x: MarketParticipantState) -> u64
-    ensures { λ r. ⌜ r ≡ participantStateRank x ⌝ }
-{
-    match x {
-        MarketParticipantState::Active => 0,
-        MarketParticipantState::Excused => 1,
-        MarketParticipantState::Withdrawn => 2,
-        MarketParticipantState::Suspended => 3,
-        MarketParticipantState::Deleted => 4,
-    }
-}
-
-fn action(x: RegShoAction) -> u64
-    ensures { λ r. ⌜ r ≡ actionRank x ⌝ }
-{
-    match x {
-        RegShoAction::None => 0,
-        RegShoAction::Intraday => 1,
-        RegShoAction::Extant => 2,
-    }
-}
-
-fn trading_state(x: TradingState) -> u64
-    ensures { λ r. ⌜ r ≡ tradingStateRank x ⌝ }
-{
-    match x {
-        TradingState::Halted => 0,
-        TradingState::Paused => 1,
-        TradingState::QuotationOnly => 2,
-        TradingState::Trading => 3,
-    }
-}
-
-fn side(x: Side) -> u64
-    ensures { λ r. ⌜ r ≡ sideRank x ⌝ }
-{
-    match x {
-        Side::Buy => 0,
-        Side::Sell => 1,
-    }
-}
-
-fn direction(x: ImbalanceDirection) -> u64
-    ensures { λ r. ⌜ r ≡ directionRank x ⌝ }
-{
-    match x {
-        ImbalanceDirection::Buy => 0,
-        ImbalanceDirection::Sell => 1,
-        ImbalanceDirection::NoImbalance => 2,
-        ImbalanceDirection::InsufficientOrders => 3,
-    }
-}
-
-fn cross(x: CrossType) -> u64
-    ensures { λ r. ⌜ r ≡ crossRank x ⌝ }
-{
-    match x {
-        CrossType::Opening => 0,
-        CrossType::Closing => 1,
-        CrossType::IpoOrHalted => 2,
-        CrossType::Intraday => 3,
-        CrossType::ExtendedTradingClose => 4,
-    }
-}
-
-fn qualifier(x: IpoReleaseQualifier) -> u64
-    ensures { λ r. ⌜ r ≡ qualifierRank x ⌝ }
-{
-    match x {
-        IpoReleaseQualifier::Anticipated => 0,
-        IpoReleaseQualifier::Cancelled => 1,
-    }
-}
-
-fn level(x: LevelBreached) -> u64
-    ensures { λ r. ⌜ r ≡ levelRank x ⌝ }
-{
-    match x {
-        LevelBreached::L1 => 0,
-        LevelBreached::L2 => 1,
-        LevelBreached::L3 => 2,
-    }
-}
-
-fn interest(x: InterestFlag) -> u64
-    ensures { λ r. ⌜ r ≡ interestRank x ⌝ }
-{
-    match x {
-        InterestFlag::RPIAvailableBuySide => 0,
-        InterestFlag::RPIAvailableSellSide => 1,
-        InterestFlag::RPIAvailableBothSides => 2,
-        InterestFlag::RPINoneAvailable => 3,
-    }
-}
-
-fn flag(x: Flag) -> u64
-    ensures { λ r. ⌜ r ≡ flagRank x ⌝ }
-{
-    match x {
-        Flag::Yes => 0,
-        Flag::No => 1,
-        Flag::Absent => 2,
-    }
-}
-
-fn yes_no(x: bool) -> u64
-    ensures { λ r. ⌜ r ≡ yesNoRank x ⌝ }
-{
-    if x {
-        return 0;
-    }
-    1
-}
-
-fn up_to_1(kind: u64, a: u64) -> Values
-    ensures { λ r. ⌜ r ≡ upTo1 kind a ⌝ }
-{
-    Values {
-        kind,
-        v: [0, 0, 0, 0, a, 0, 0, 0, 0, 0, 0, 0, 0, 0, 0, 0, 0, 0],
-    }
-}
-
-fn up_to_2(kind: u64, a: u64, b: u64) -> Values
-    ensures { λ r. ⌜ r ≡ upTo2 kind a b ⌝ }
-{
-    Values {
-        kind,
-        v: [0, 0, 0, 0, a, b, 0, 0, 0, 0, 0, 0, 0, 0, 0, 0, 0, 0],
-    }
-}
-
-fn up_to_3(kind: u64, a: u64, b: u64, c: u64) -> Values
-    ensures { λ r. ⌜ r ≡ upTo3 kind a b c ⌝ }
-{
-    Values {
-        kind,
-        v: [0, 0, 0, 0, a, b, c, 0, 0, 0, 0, 0, 0, 0, 0, 0, 0, 0],
-    }
-}
-
-fn up_to_5(kind: u64, a: u64, b: u64, c: u64, d: u64, e: u64) -> Values
-    ensures { λ r. ⌜ r ≡ upTo5 kind a b c d e ⌝ }
-{
-    Values {
-        kind,
-        v: [0, 0, 0, 0, a, b, c, d, e, 0, 0, 0, 0, 0, 0, 0, 0, 0],
-    }
-}
-
-fn attributed(x: AddOrder, which: u64, who: Mpid) -> Values
-    ensures { λ r. ⌜ r ≡ attributedOf x which who ⌝ }
-{
-    match who {
-        Mpid::Absent => up_to_5(
-            0,
-            x.reference,
-            which,
-            x.shares as u64,
-            x.stock,
-            x.price as u64,
-        ),
-        Mpid::Present(mpid) => Values {
-            kind: 20,
-            v: [
-                0,
-                0,
-                0,
-                0,
-                x.reference,
-                which,
-                x.shares as u64,
-                x.stock,
-                x.price as u64,
-                mpid as u64,
-                0,
-                0,
-                0,
-                0,
-                0,
-                0,
-                0,
-                0,
-            ],
-        },
-    }
-}
-
-fn add_order(x: AddOrder) -> Values
-    ensures { λ r. ⌜ r ≡ addOrderOf x ⌝ }
+fn attributed(x: AddOrder, who: Mpid) -> [u64; 19]
+    ensures { λ r. ⌜ r ≡ bodyNumbers (orderValues x who) ⌝ }
 {
     let which = x.side;
-    let who = x.mpid;
-    attributed(x, side(which), who)
-}
-
-fn cross_trade(x: CrossTrade) -> Values
-    ensures { λ r. ⌜ r ≡ crossTradeOf x ⌝ }
-{
-    let x_cross_type = x.cross_type;
-    Values {
-        kind: 3,
-        v: [
-            0,
-            0,
-            0,
-            0,
-            x.shares,
-            x.stock,
-            x.cross_price as u64,
-            x.match_number,
-            cross(x_cross_type),
-            0,
-            0,
-            0,
-            0,
-            0,
-            0,
-            0,
-            0,
-            0,
-        ],
-    }
-}
-
-fn imbalance(x: ImbalanceIndicator) -> Values
-    ensures { λ r. ⌜ r ≡ imbalanceOf x ⌝ }
-{
-    let x_imbalance_direction = x.imbalance_direction;
-    let x_cross_type = x.cross_type;
-    Values {
-        kind: 5,
-        v: [
-            0,
-            0,
-            0,
-            0,
-            x.paired_shares,
-            x.imbalance_shares,
-            direction(x_imbalance_direction),
-            x.stock,
-            x.far_price as u64,
-            x.near_price as u64,
-            x.current_ref_price as u64,
-            cross(x_cross_type),
-            x.price_variation_indicator as u64,
-            0,
-            0,
-            0,
-            0,
-            0,
-        ],
-    }
-}
-
-fn ipo(x: IpoQuotingPeriod) -> Values
-    ensures { λ r. ⌜ r ≡ ipoOf x ⌝ }
-{
-    let x_release_qualifier = x.release_qualifier;
-    Values {
-        kind: 6,
-        v: [
-            0,
-            0,
-            0,
-            0,
-            x.stock,
-            x.release_time as u64,
-            qualifier(x_release_qualifier),
-            x.price as u64,
-            0,
-            0,
-            0,
-            0,
-            0,
-            0,
-            0,
-            0,
-            0,
-            0,
-        ],
-    }
-}
-
-fn non_cross_trade(x: NonCrossTrade) -> Values
-    ensures { λ r. ⌜ r ≡ nonCrossTradeOf x ⌝ }
-{
-    let x_side = x.side;
-    Values {
-        kind: 9,
-        v: [
-            0,
-            0,
-            0,
-            0,
+    let side = letters::side_code(which) as u64;
+    let shares = x.shares as u64;
+    let price = x.price as u64;
+    match who {
+        Mpid::Absent => numbers(b'A', x.reference, side, shares, x.stock, price, 0, 0, 0, 0),
+        Mpid::Present(mpid) => numbers(
+            b'F',
             x.reference,
-            side(x_side),
-            x.shares as u64,
+            side,
+            shares,
             x.stock,
-            x.price as u64,
-            x.match_number,
+            price,
+            mpid as u64,
             0,
             0,
             0,
-            0,
-            0,
-            0,
-            0,
-            0,
-        ],
+        ),
     }
 }
 
-fn position(x: MarketParticipantPosition) -> Values
-    ensures { λ r. ⌜ r ≡ positionOf x ⌝ }
+fn add_order(x: AddOrder) -> [u64; 19]
+    ensures { λ r. ⌜ r ≡ bodyNumbers (values (Body·.AddOrder x)) ⌝ }
 {
-    let x_market_maker_mode = x.market_maker_mode;
-    let x_market_participant_state = x.market_participant_state;
-    Values {
-        kind: 13,
-        v: [
-            0,
-            0,
-            0,
-            0,
-            x.mpid as u64,
-            x.stock,
-            yes_no(x.primary_market_maker),
-            maker_mode(x_market_maker_mode),
-            participant_state(x_market_participant_state),
-            0,
-            0,
-            0,
-            0,
-            0,
-            0,
-            0,
-            0,
-            0,
-        ],
-    }
+    let who = x.mpid;
+    attributed(x, who)
 }
 
-fn replace_order(x: ReplaceOrder) -> Values
-    ensures { λ r. ⌜ r ≡ replaceOrderOf x ⌝ }
+fn cross_trade(x: CrossTrade) -> [u64; 19]
+    ensures { λ r. ⌜ r ≡ bodyNumbers (values (Body·.CrossTrade x)) ⌝ }
 {
-    Values {
-        kind: 15,
-        v: [
-            0,
-            0,
-            0,
-            0,
-            x.old_reference,
-            x.new_reference,
-            x.shares as u64,
-            x.price as u64,
-            0,
-            0,
-            0,
-            0,
-            0,
-            0,
-            0,
-            0,
-            0,
-            0,
-        ],
-    }
+    let which = x.cross_type;
+    let cross = letters::cross_code(which) as u64;
+    let price = x.cross_price as u64;
+    numbers(
+        b'Q',
+        x.shares,
+        x.stock,
+        price,
+        x.match_number,
+        cross,
+        0,
+        0,
+        0,
+        0,
+    )
 }
 
-fn retail(x: RetailPriceImprovementIndicator) -> Values
-    ensures { λ r. ⌜ r ≡ retailOf x ⌝ }
+fn imbalance(x: ImbalanceIndicator) -> [u64; 19]
+    ensures { λ r. ⌜ r ≡ bodyNumbers (values (Body·.Imbalance x)) ⌝ }
 {
-    let x_interest_flag = x.interest_flag;
-    Values {
-        kind: 16,
-        v: [
-            0,
-            0,
-            0,
-            0,
-            x.stock,
-            interest(x_interest_flag),
-            0,
-            0,
-            0,
-            0,
-            0,
-            0,
-            0,
-            0,
-            0,
-            0,
-            0,
-            0,
-        ],
-    }
+    let way = x.imbalance_direction;
+    let which = x.cross_type;
+    let direction = letters::direction_code(way) as u64;
+    let cross = letters::cross_code(which) as u64;
+    numbers(
+        b'I',
+        x.paired_shares,
+        x.imbalance_shares,
+        direction,
+        x.stock,
+        x.far_price as u64,
+        x.near_price as u64,
+        x.current_ref_price as u64,
+        cross,
+        x.price_variation_indicator as u64,
+    )
 }
 
-fn directory(x: StockDirectory) -> Values
-    ensures { λ r. ⌜ r ≡ directoryOf x ⌝ }
+fn ipo(x: IpoQuotingPeriod) -> [u64; 19]
+    ensures { λ r. ⌜ r ≡ bodyNumbers (values (Body·.IpoQuotingPeriod x)) ⌝ }
+{
+    let which = x.release_qualifier;
+    let qualifier = letters::qualifier_code(which) as u64;
+    let time = x.release_time as u64;
+    numbers(
+        b'K',
+        x.stock,
+        time,
+        qualifier,
+        x.price as u64,
+        0,
+        0,
+        0,
+        0,
+        0,
+    )
+}
+
+fn non_cross_trade(x: NonCrossTrade) -> [u64; 19]
+    ensures { λ r. ⌜ r ≡ bodyNumbers (values (Body·.NonCrossTrade x)) ⌝ }
+{
+    let which = x.side;
+    let side = letters::side_code(which) as u64;
+    numbers(
+        b'P',
+        x.reference,
+        side,
+        x.shares as u64,
+        x.stock,
+        x.price as u64,
+        x.match_number,
+        0,
+        0,
+        0,
+    )
+}
+
+fn position(x: MarketParticipantPosition) -> [u64; 19]
+    ensures { λ r. ⌜ r ≡ bodyNumbers (values (Body·.ParticipantPosition x)) ⌝ }
+{
+    let way = x.market_maker_mode;
+    let which = x.market_participant_state;
+    let primary = letters::yes_no_code(x.primary_market_maker) as u64;
+    let mode = letters::maker_mode_code(way) as u64;
+    let state = letters::participant_state_code(which) as u64;
+    numbers(
+        b'L',
+        x.mpid as u64,
+        x.stock,
+        primary,
+        mode,
+        state,
+        0,
+        0,
+        0,
+        0,
+    )
+}
+
+fn replace_order(x: ReplaceOrder) -> [u64; 19]
+    ensures { λ r. ⌜ r ≡ bodyNumbers (values (Body·.ReplaceOrder x)) ⌝ }
+{
+    numbers(
+        b'U',
+        x.old_reference,
+        x.new_reference,
+        x.shares as u64,
+        x.price as u64,
+        0,
+        0,
+        0,
+        0,
+        0,
+    )
+}
+
+fn retail(x: RetailPriceImprovementIndicator) -> [u64; 19]
+    ensures { λ r. ⌜ r ≡ bodyNumbers (values (Body·.RetailPriceImprovementIndicator x)) ⌝ }
+{
+    let which = x.interest_flag;
+    let interest = letters::interest_code(which) as u64;
+    numbers(b'N', x.stock, interest, 0, 0, 0, 0, 0, 0, 0)
+}
+
+fn directory(x: StockDirectory) -> [u64; 19]
+    ensures { λ r. ⌜ r ≡ bodyNumbers (values (Body·.StockDirectory x)) ⌝ }
 {
     let x_market_category = x.market_category;
     let x_financial_status = x.financial_status;
@@ -632,33 +250,31 @@ fn directory(x: StockDirectory) -> Values
     let x_ipo_flag = x.ipo_flag;
     let x_luld_ref_price_tier = x.luld_ref_price_tier;
     let x_etp_flag = x.etp_flag;
-    Values {
-        kind: 17,
-        v: [
-            0,
-            0,
-            0,
-            0,
-            x.stock,
-            category(x_market_category),
-            status(x_financial_status),
-            x.round_lot_size as u64,
-            yes_no(x.round_lots_only),
-            class(x_issue_classification),
-            subtype(x_issue_subtype),
-            yes_no(x.authenticity),
-            flag(x_short_sale_threshold),
-            flag(x_ipo_flag),
-            tier(x_luld_ref_price_tier),
-            flag(x_etp_flag),
-            x.etp_leverage_factor as u64,
-            yes_no(x.inverse_indicator),
-        ],
-    }
+    [
+        0,
+        0,
+        0,
+        0,
+        82,
+        x.stock,
+        letters::category_code(x_market_category) as u64,
+        letters::status_code(x_financial_status) as u64,
+        x.round_lot_size as u64,
+        letters::yes_no_code(x.round_lots_only) as u64,
+        letters::class_code(x_issue_classification) as u64,
+        letters::subtype_code(x_issue_subtype) as u64,
+        letters::authenticity_code(x.authenticity) as u64,
+        letters::flag_code(x_short_sale_threshold) as u64,
+        letters::flag_code(x_ipo_flag) as u64,
+        letters::tier_code(x_luld_ref_price_tier) as u64,
+        letters::flag_code(x_etp_flag) as u64,
+        x.etp_leverage_factor as u64,
+        letters::yes_no_code(x.inverse_indicator) as u64,
+    ]
 }
 
-fn body_values(body: Body) -> Values
-    ensures { λ r. ⌜ r ≡ valuesOf body ⌝ }
+fn body_numbers(body: Body) -> [u64; 19]
+    ensures { λ r. ⌜ r ≡ bodyNumbers (values body) ⌝ }
 {
     match body {
         Body::AddOrder(x) => add_order(x),
@@ -670,61 +286,113 @@ fn body_values(body: Body) -> Values
         Body::ReplaceOrder(x) => replace_order(x),
         Body::RetailPriceImprovementIndicator(x) => retail(x),
         Body::StockDirectory(x) => directory(x),
-        Body::Breach(x) => up_to_1(1, level(x)),
-        Body::BrokenTrade { match_number } => up_to_1(2, match_number),
-        Body::DeleteOrder { reference } => up_to_1(4, reference),
+        Body::Breach(x) => numbers(b'W', letters::level_code(x) as u64, 0, 0, 0, 0, 0, 0, 0, 0),
+        Body::BrokenTrade { match_number } => numbers(b'B', match_number, 0, 0, 0, 0, 0, 0, 0, 0),
+        Body::DeleteOrder { reference } => numbers(b'D', reference, 0, 0, 0, 0, 0, 0, 0, 0),
         Body::LULDAuctionCollar {
             stock,
             ref_price,
             upper_price,
             lower_price,
             extension,
-        } => up_to_5(
-            7,
+        } => numbers(
+            b'J',
             stock,
             ref_price as u64,
             upper_price as u64,
             lower_price as u64,
             extension as u64,
+            0,
+            0,
+            0,
+            0,
         ),
         Body::MwcbDeclineLevel {
             level1,
             level2,
             level3,
-        } => up_to_3(8, level1, level2, level3),
+        } => numbers(b'V', level1, level2, level3, 0, 0, 0, 0, 0, 0),
         Body::OrderCancelled {
             reference,
             cancelled,
-        } => up_to_2(10, reference, cancelled as u64),
+        } => numbers(b'X', reference, cancelled as u64, 0, 0, 0, 0, 0, 0, 0),
         Body::OrderExecuted {
             reference,
             executed,
             match_number,
-        } => up_to_3(11, reference, executed as u64, match_number),
+        } => numbers(
+            b'E',
+            reference,
+            executed as u64,
+            match_number,
+            0,
+            0,
+            0,
+            0,
+            0,
+            0,
+        ),
         Body::OrderExecutedWithPrice {
             reference,
             executed,
             match_number,
             printable,
             price,
-        } => up_to_5(
-            12,
+        } => numbers(
+            b'C',
             reference,
             executed as u64,
             match_number,
-            yes_no(printable),
+            letters::yes_no_code(printable) as u64,
             price as u64,
+            0,
+            0,
+            0,
+            0,
         ),
         Body::RegShoRestriction {
             stock,
             action: what,
-        } => up_to_2(14, stock, action(what)),
-        Body::SystemEvent { event: what } => up_to_1(18, event(what)),
+        } => numbers(
+            b'Y',
+            stock,
+            letters::action_code(what) as u64,
+            0,
+            0,
+            0,
+            0,
+            0,
+            0,
+            0,
+        ),
+        Body::SystemEvent { event: what } => numbers(
+            b'S',
+            letters::event_code(what) as u64,
+            0,
+            0,
+            0,
+            0,
+            0,
+            0,
+            0,
+            0,
+        ),
         Body::TradingAction {
             stock,
             trading_state: way,
             reason,
-        } => up_to_3(19, stock, trading_state(way), reason as u64),
+        } => numbers(
+            b'H',
+            stock,
+            letters::trading_state_code(way) as u64,
+            reason as u64,
+            0,
+            0,
+            0,
+            0,
+            0,
+            0,
+        ),
     }
 }
 
@@ -732,15 +400,14 @@ fn message(state: Stream, m: Message) -> Flat
     ensures { λ r. ⌜ r ≡ messageOf state m ⌝ }
 {
     let body = m.body;
-    let w = body_values(body);
-    let mut v = w.v;
+    let mut v = body_numbers(body);
     v[0] = m.tag as u64;
     v[1] = m.stock_locate as u64;
     v[2] = m.tracking_number as u64;
     v[3] = m.timestamp;
     Flat {
         state,
-        kind: w.kind,
+        kind: v[4],
         v,
     }
 }
@@ -751,7 +418,7 @@ fn said(state: Stream, kind: u64, a: u64, b: u64) -> Flat
     Flat {
         state,
         kind,
-        v: [a, b, 0, 0, 0, 0, 0, 0, 0, 0, 0, 0, 0, 0, 0, 0, 0, 0],
+        v: [a, b, 0, 0, 0, 0, 0, 0, 0, 0, 0, 0, 0, 0, 0, 0, 0, 0, 0],
     }
 }
 

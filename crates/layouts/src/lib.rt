@@ -1,6 +1,6 @@
 // Lines by layouts. A layout is put byte for byte, but for what stands in braces, where a value is put: {n} its decimal, {8}, {4} and {1} so many
-// bytes of a text, and otherwise one of the names in the braces, the value saying which, from 0 on. Each name has a comma behind it. {. ends the
-// layout. The bytes of a text are as they are from 0x20 to 0x7e but for the backslash; all others are `\xHH`. Of a layout that is none of these,
+// bytes of a text, and otherwise the name that the braces have for the value, a code: each is the code's bytes, `=`, the name and a comma. {. ends
+// the layout. The bytes of a text are as they are from 0x20 to 0x7e but for the backslash; all others are `\xHH`. Of a layout that is none of these,
 // some bytes are put: the contracts say that all stays within the buffer, and the runs against the Rust say what the lines are.
 ghost use mathlib.Core.Path.{_≡_};
 ghost use Prim.Native.Nat.{_+_, _-_, _*_, _≤_};
@@ -12,6 +12,12 @@ fn as_byte(x: u64) -> u8
     requires { ⌜ x ≤ 255 ⌝ }
 {
     x as u8
+}
+
+fn wide(x: u8) -> u64
+    ensures { λ r. ⌜ r ≤ 255 ⌝ }
+{
+    x as u64
 }
 
 // A number in decimal.
@@ -99,18 +105,33 @@ fn behind(layout: &[u8], from: usize, mark: u8) -> usize
     i
 }
 
-// Behind so many commas: where the k-th name begins.
-fn nth(layout: &[u8], from: usize, k: u64) -> usize
+// The code that stands between two places, before a `=`: of one byte or of two. No other is one.
+fn code_at(layout: &[u8], from: usize, to: usize) -> u64
+    requires { ⌜ (from ≤ to) × (to ≤ length (now layout)) ⌝ }
+{
+    let n = to - from;
+    if n == 2 {
+        return wide(layout[from]);
+    }
+    if n == 3 {
+        return wide(layout[from]) * 256 + wide(layout[from + 1]);
+    }
+    65536
+}
+
+// Where the name of a code begins.
+fn named(layout: &[u8], from: usize, code: u64) -> usize
     requires { ⌜ from ≤ length (now layout) ⌝ }
     ensures { λ r. ⌜ (from ≤ r) × (r ≤ length (now (layout .entry))) ⌝ }
 {
     let mut i = from;
-    let mut left = k;
+    let mut left = layout.len() - from;
     while left > 0 {
-        if i == layout.len() {
-            return i;
+        let name = behind(layout, i, b'=');
+        if code_at(layout, i, name) == code {
+            return name;
         }
-        i = behind(layout, i, b',');
+        i = behind(layout, name, b',');
         left -= 1;
     }
     i
@@ -122,11 +143,11 @@ struct Mark {
     at: usize,
 }
 
-fn listed(layout: &[u8], from: usize, k: u64, out: &mut [u8], at: usize) -> Mark
+fn listed(layout: &[u8], from: usize, code: u64, out: &mut [u8], at: usize) -> Mark
     requires { ⌜ (from ≤ length (now layout)) × (at + (length (now layout) - from) ≤ length (now out)) ⌝ }
     ensures { λ r. ⌜ (from ≤ r .from) × (r .from ≤ length (now (layout .entry))) × (r .at + from ≤ at + r .from) ⌝ }
 {
-    let start = nth(layout, from, k);
+    let start = named(layout, from, code);
     let end = copied(layout, start, b',', out, at);
     let next = behind(layout, end, b'}');
     Mark {

@@ -14,7 +14,7 @@ use Rattle.flat.specs.declared.Flat.{Flat}
 use Rattle.flat.specs.Flatten.{stepFlat}
 use Rattle.flat.proofs.Answers.{is-message, is-ready, flat-state}
 
-pub free-inside : (s : Stream) (len : ℕ) (r : Flat) → r ≡ stepFlat (roomOf s len) → r .kind ≡ 24 → r .state .end ≤ len
+pub free-inside : (s : Stream) (len : ℕ) (r : Flat) → r ≡ stepFlat (roomOf s len) → r .kind ≡ 3 → r .state .end ≤ len
 free-inside s len r e k =
     let x = roomOf s len in
     let a : x .answer ≡ Ready = is-ready (x .state) (x .answer) (ap (λ (f : Flat). f .kind) (sym e) ∙ k) in
@@ -22,7 +22,7 @@ free-inside s len r e k =
     let g : r .state ≡ x .state = ap (λ (f : Flat). f .state) e ∙ flat-state (x .state) (x .answer) in
     rw g (omega (arith, h .whole, h .free))
 
-pub counted : (s : Stream) (b : List ℕ) (r : Flat) → r ≡ stepFlat (nextOf s b) → r .kind ≤ 20 → r .state .messages ≡ s .messages + 1
+pub counted : (s : Stream) (b : List ℕ) (r : Flat) → r ≡ stepFlat (nextOf s b) → 65 ≤ r .kind → r .state .messages ≡ s .messages + 1
 counted s b r e k =
     let x = nextOf s b in
     let m = is-message (x .state) (x .answer) (rw (ap (λ (f : Flat). f .kind) e) at k) in

@@ -32,37 +32,34 @@ fn header(v: &[u64], out: &mut [u8], at: usize) -> usize
     )
 }
 
-// Behind the header: the layout of a kind. There is always room, since the table and its values take less than a line is given below; and a kind that
-// has a layout is below 32.
-fn by_kind(
-    kind: usize,
-    v: &[u64],
-    table: &[u8],
-    starts: &[usize],
-    out: &mut [u8],
-    at: usize,
-) -> usize
+// The layout of a kind: that of its letter, behind the first two. There is always room, since the table and its values take less than a line is given
+// below.
+fn by_kind(kind: u64, v: &[u64], table: &[u8], starts: &[usize], out: &mut [u8], at: usize) -> usize
     requires { ⌜ at ≤ length (now out) ⌝ }
     ensures { λ r. ⌜ r ≤ length (now (out .entry)) ⌝ }
 {
-    if kind >= starts.len() {
+    let mut slot = kind;
+    if kind >= flat::FIRST {
+        slot = kind - flat::FIRST + 2;
+    }
+    let k = slot as usize;
+    if k >= starts.len() {
         return at;
     }
-    layouts::put(table, starts[kind], v, out, at)
+    layouts::put(table, starts[k], v, out, at)
 }
 
-// The line of an answer that has one.
+// The line of an answer that has one: a message's, nothing more and refused.
 fn line(f: Flat, table: &[u8], starts: &[usize], out: &mut [u8], at: usize) -> usize
     requires { ⌜ at ≤ length (now out) ⌝ }
     ensures { λ r. ⌜ r ≤ length (now (out .entry)) ⌝ }
 {
     let v = f.v;
-    let kind = f.kind as usize;
-    if f.kind > flat::LAST {
-        return by_kind(kind, &v, table, starts, out, at);
+    if f.kind < flat::FIRST {
+        return by_kind(f.kind, &v[..2], table, starts, out, at);
     }
     let next = header(&v[..4], out, at);
-    by_kind(kind, &v[4..], table, starts, out, next)
+    by_kind(f.kind, &v[5..], table, starts, out, next)
 }
 
 // Hands what stands before `at` to the write calls, and says whether they took it.
@@ -80,10 +77,10 @@ struct Room {
 
 // Room for a line: what is there is written, if there is too little.
 fn line_room(out: &[u8], at: usize) -> Room
-    requires { ⌜ (5120 ≤ length (now out)) × (at ≤ length (now out)) ⌝ }
-    ensures { λ r. ⌜ r .at + 5120 ≤ length (now (out .entry)) ⌝ }
+    requires { ⌜ (6144 ≤ length (now out)) × (at ≤ length (now out)) ⌝ }
+    ensures { λ r. ⌜ r .at + 6144 ≤ length (now (out .entry)) ⌝ }
 {
-    if out.len() - at < 5120 {
+    if out.len() - at < 6144 {
         return Room {
             at: 0,
             written: flushed(out, at),
@@ -101,14 +98,14 @@ struct Said {
 
 // Takes the window's messages and puts their lines, to the first answer that is none.
 fn drain(s0: Stream, b: &[u8], table: &[u8], starts: &[usize], out: &mut [u8], at0: usize) -> Said
-    requires { ⌜ (5120 ≤ length (now out)) × (at0 ≤ length (now out)) ⌝ }
+    requires { ⌜ (6144 ≤ length (now out)) × (at0 ≤ length (now out)) ⌝ }
     ensures { λ r. ⌜ r .at ≤ length (now (out .entry)) ⌝ }
 {
     let mut s = s0;
     let mut at = at0;
     loop {
         let f = flat::next(s, b);
-        if f.kind > flat::LAST {
+        if f.kind < flat::FIRST {
             return Said {
                 f,
                 at,
@@ -220,7 +217,7 @@ fn answered(
     out: &mut [u8],
     at: usize,
 ) -> Run
-    requires { ⌜ (5120 ≤ length (now out)) × (at ≤ length (now out)) ⌝ }
+    requires { ⌜ (6144 ≤ length (now out)) × (at ≤ length (now out)) ⌝ }
     ensures { λ r. ⌜ r .at ≤ length (now (out .entry)) ⌝ }
 {
     let f = d.f;
@@ -258,7 +255,7 @@ fn turn(
     starts: &[usize],
     out: &mut [u8],
 ) -> Run
-    requires { ⌜ (5120 ≤ length (now out)) × (c .at ≤ length (now out)) ⌝ }
+    requires { ⌜ (6144 ≤ length (now out)) × (c .at ≤ length (now out)) ⌝ }
     ensures { λ r. ⌜ r .at ≤ length (now (out .entry)) ⌝ }
 {
     let last = c.f;
@@ -290,7 +287,7 @@ fn turns(
     out: &mut [u8],
     at: usize,
 ) -> Run
-    requires { ⌜ (5120 ≤ length (now out)) × (at ≤ length (now out)) ⌝ }
+    requires { ⌜ (6144 ≤ length (now out)) × (at ≤ length (now out)) ⌝ }
     ensures { λ r. ⌜ r .at ≤ length (now (out .entry)) ⌝ }
 {
     let mut buf = [0u8; 8192];
@@ -299,7 +296,7 @@ fn turns(
         f: Flat {
             state: s,
             kind: flat::NOTHING,
-            v: [0u64; 18],
+            v: [0u64; 19],
         },
         place: Place { i, left: 0 },
         more: true,
@@ -361,7 +358,7 @@ fn end_line(s: Stream, out: &mut [u8], at: usize) -> usize
 
 // Shows standard input, and says whether no write failed.
 fn show_all(table: &[u8], starts: &[usize], out: &mut [u8]) -> bool
-    requires { ⌜ 5120 ≤ length (now out) ⌝ }
+    requires { ⌜ 6144 ≤ length (now out) ⌝ }
 {
     let none = [0u8; 1];
     let c = turns(true, &none, 0, table, starts, out, 0);
@@ -394,7 +391,7 @@ fn one_case(
     out: &mut [u8],
     at: usize,
 ) -> Played
-    requires { ⌜ (5120 ≤ length (now out)) × (at ≤ length (now out)) ⌝ }
+    requires { ⌜ (6144 ≤ length (now out)) × (at ≤ length (now out)) ⌝ }
     ensures { λ r. ⌜ (r .i ≡ end) × (r .at ≤ length (now (out .entry))) ⌝ }
 {
     let c = turns(false, list, i, table, starts, out, at);
@@ -411,7 +408,7 @@ fn one_case(
 
 // The whole cases of the list.
 fn whole_cases(list: &[u8], table: &[u8], starts: &[usize], out: &mut [u8], at: usize) -> Played
-    requires { ⌜ (5120 ≤ length (now out)) × (at ≤ length (now out)) ⌝ }
+    requires { ⌜ (6144 ≤ length (now out)) × (at ≤ length (now out)) ⌝ }
     ensures { λ r. ⌜ (r .i ≤ length (now (list .entry))) × (r .at ≤ length (now (out .entry))) ⌝ }
 {
     let mut c = Played {
@@ -472,7 +469,7 @@ fn some_cases(
     out: &mut [u8],
     at: usize,
 ) -> Held
-    requires { ⌜ (n ≤ length (now held)) × (5120 ≤ length (now out)) × (at ≤ length (now out)) ⌝ }
+    requires { ⌜ (n ≤ length (now held)) × (6144 ≤ length (now out)) × (at ≤ length (now out)) ⌝ }
     ensures { λ r. ⌜ (r .n ≤ length (now (held .entry))) × (r .at ≤ length (now (out .entry))) ⌝ }
 {
     let all = more_held(held, n);
@@ -505,7 +502,7 @@ fn list_buffer() -> [u8; 262144]
 
 // Plays the cases of standard input. No input has as many reads as are allowed.
 fn all_cases(table: &[u8], starts: &[usize], out: &mut [u8]) -> Held
-    requires { ⌜ 5120 ≤ length (now out) ⌝ }
+    requires { ⌜ 6144 ≤ length (now out) ⌝ }
     ensures { λ r. ⌜ r .at ≤ length (now (out .entry)) ⌝ }
 {
     let mut held = list_buffer();
@@ -529,7 +526,7 @@ fn all_cases(table: &[u8], starts: &[usize], out: &mut [u8]) -> Held
 
 // The same, to its end; says whether no write failed.
 fn case_all(table: &[u8], starts: &[usize], out: &mut [u8]) -> bool
-    requires { ⌜ 5120 ≤ length (now out) ⌝ }
+    requires { ⌜ 6144 ≤ length (now out) ⌝ }
 {
     let h = all_cases(table, starts, out);
     if !h.written {
@@ -541,54 +538,61 @@ fn case_all(table: &[u8], starts: &[usize], out: &mut [u8]) -> bool
     flushed(out, h.at)
 }
 
-// The layouts of the lines by their kind (crate flat), one behind the other; of a message's, what comes behind `body=`.
+// The layouts of the lines, one behind the other: nothing more, refused, and for each letter from A to Y what comes behind `body=` in the line of a message
+// whose body has this tag; none for the letters that are no tag.
 fn go(raw: bool) {
     let table: &[u8] = b"\
-        AddOrder\treference={n}\tside={Buy,Sell,}\tshares={n}\tstock={8}\tprice={n}\tmpid=None\n{.\
-        Breach\tlevel={L1,L2,L3,}\n{.\
-        BrokenTrade\tmatch_number={n}\n{.\
-        CrossTrade\tshares={n}\tstock={8}\tcross_price={n}\tmatch_number={n}\tcross_type={Opening,Closing,IpoOrHalted,Intraday,\
-            ExtendedTradingClose,}\n{.\
-        DeleteOrder\treference={n}\n{.\
-        Imbalance\tpaired_shares={n}\timbalance_shares={n}\timbalance_direction={Buy,Sell,NoImbalance,InsufficientOrders,}\tstock={8}\
-            \tfar_price={n}\tnear_price={n}\tcurrent_ref_price={n}\tcross_type={Opening,Closing,IpoOrHalted,Intraday,ExtendedTradingClose,}\
-            \tprice_variation_indicator={1}\n{.\
-        IpoQuotingPeriod\tstock={8}\trelease_time={n}\trelease_qualifier={Anticipated,Cancelled,}\tprice={n}\n{.\
-        LULDAuctionCollar\tstock={8}\tref_price={n}\tupper_price={n}\tlower_price={n}\textension={n}\n{.\
-        MwcbDeclineLevel\tlevel1={n}\tlevel2={n}\tlevel3={n}\n{.\
-        NonCrossTrade\treference={n}\tside={Buy,Sell,}\tshares={n}\tstock={8}\tprice={n}\tmatch_number={n}\n{.\
-        OrderCancelled\treference={n}\tcancelled={n}\n{.\
-        OrderExecuted\treference={n}\texecuted={n}\tmatch_number={n}\n{.\
-        OrderExecutedWithPrice\treference={n}\texecuted={n}\tmatch_number={n}\tprintable={true,false,}\tprice={n}\n{.\
-        ParticipantPosition\tmpid={4}\tstock={8}\tprimary_market_maker={true,false,}\tmarket_maker_mode={Normal,Passive,Syndicate,\
-            Presyndicate,Penalty,}\tmarket_participant_state={Active,Excused,Withdrawn,Suspended,Deleted,}\n{.\
-        RegShoRestriction\tstock={8}\taction={None,Intraday,Extant,}\n{.\
-        ReplaceOrder\told_reference={n}\tnew_reference={n}\tshares={n}\tprice={n}\n{.\
-        RetailPriceImprovementIndicator\tstock={8}\tinterest_flag={RPIAvailableBuySide,RPIAvailableSellSide,RPIAvailableBothSides,\
-            RPINoneAvailable,}\n{.\
-        StockDirectory\tstock={8}\tmarket_category={NasdaqGlobalSelect,NasdaqGlobalMarket,NasdaqCapitalMarket,Nyse,NyseMkt,NyseArca,\
-            BatsZExchange,InvestorsExchange,Unavailable,}\tfinancial_status={Normal,Deficient,Delinquent,Bankrupt,Suspended,DeficientBankrupt,\
-            DeficientDelinquent,DelinquentBankrupt,DeficientDelinquentBankrupt,EtpSuspended,Unavailable,}\tround_lot_size={n}\
-            \tround_lots_only={true,false,}\tissue_classification={AmericanDepositaryShare,Bond,CommonStock,DepositoryReceipt,A144,\
-            LimitedPartnership,Notes,OrdinaryShare,PreferredStock,OtherSecurities,Right,SharesOfBeneficialInterest,ConvertibleDebenture,Unit,\
-            UnitsPerBenifInt,Warrant,}\tissue_subtype={PreferredTrustSecurities,AlphaIndexETNs,IndexBasedDerivative,CommonShares,\
-            CommodityBasedTrustShares,CommodityFuturesTrustShares,CommodityLinkedSecurities,CommodityIndexTrustShares,\
-            CollateralizedMortgageObligation,CurrencyTrustShares,CommodityCurrencyLinkedSecurities,CurrencyWarrants,GlobalDepositaryShares,\
-            ETFPortfolioDepositaryReceipt,EquityGoldShares,ETNEquityIndexLinkedSecurities,ExchangeTradedManagedFunds,ExchangeTradedNotes,\
-            EquityUnits,Holdrs,ETNFixedIncomeLinkedSecurities,ETNFuturesLinkedSecurities,GlobalShares,ETFIndexFundShares,InterestRate,\
-            IndexWarrant,IndexLinkedExchangeableNotes,CorporateBackedTrustSecurity,ContingentLitigationRight,Llc,EquityBasedDerivative,\
-            ManagedFundShares,ETNMultiFactorIndexLinkedSecurities,ManagedTrustSecurities,NYRegistryShares,OpenEndedMutualFund,\
-            PrivatelyHeldSecurity,PoisonPill,PartnershipUnits,ClosedEndFunds,RegS,CommodityRedeemableCommodityLinkedSecurities,\
-            ETNRedeemableFuturesLinkedSecurities,REIT,CommodityRedeemableCurrencyLinkedSecurities,Seed,SpotRateClosing,SpotRateIntraday,\
-            TrackingStock,TrustCertificates,TrustUnits,Portal,ContingentValueRight,TrustIssuedReceipts,WorldCurrencyOption,Trust,Other,\
-            NotApplicable,}\tauthenticity={true,false,}\tshort_sale_threshold={Some(true),Some(false),None,}\tipo_flag={Some(true),\
-            Some(false),None,}\tluld_ref_price_tier={Tier1,Tier2,Na,}\tetp_flag={Some(true),Some(false),None,}\tetp_leverage_factor={n}\
-            \tinverse_indicator={true,false,}\n{.\
-        SystemEvent\tevent={StartOfMessages,StartOfSystemHours,StartOfMarketHours,EndOfMarketHours,EndOfSystemHours,EndOfMessages,}\n{.\
-        TradingAction\tstock={8}\ttrading_state={Halted,Paused,QuotationOnly,Trading,}\treason={4}\n{.\
-        AddOrder\treference={n}\tside={Buy,Sell,}\tshares={n}\tstock={8}\tprice={n}\tmpid=Some({4})\n{.\
         nothing\n{.\
-        refused {n} {n}\n{.";
+        refused {n} {n}\n{.\
+        AddOrder\treference={n}\tside={B=Buy,S=Sell,}\tshares={n}\tstock={8}\tprice={n}\tmpid=None\n{.\
+        BrokenTrade\tmatch_number={n}\n{.\
+        OrderExecutedWithPrice\treference={n}\texecuted={n}\tmatch_number={n}\tprintable={Y=true,N=false,}\tprice={n}\n{.\
+        DeleteOrder\treference={n}\n{.\
+        OrderExecuted\treference={n}\texecuted={n}\tmatch_number={n}\n{.\
+        AddOrder\treference={n}\tside={B=Buy,S=Sell,}\tshares={n}\tstock={8}\tprice={n}\tmpid=Some({4})\n{.\
+        {.\
+        TradingAction\tstock={8}\ttrading_state={H=Halted,P=Paused,Q=QuotationOnly,T=Trading,}\treason={4}\n{.\
+        Imbalance\tpaired_shares={n}\timbalance_shares={n}\timbalance_direction={B=Buy,S=Sell,N=NoImbalance,O=InsufficientOrders,}\tstock={8}\
+            \tfar_price={n}\tnear_price={n}\tcurrent_ref_price={n}\tcross_type={O=Opening,C=Closing,H=IpoOrHalted,I=Intraday,A=ExtendedTradingClose,}\
+            \tprice_variation_indicator={1}\n{.\
+        LULDAuctionCollar\tstock={8}\tref_price={n}\tupper_price={n}\tlower_price={n}\textension={n}\n{.\
+        IpoQuotingPeriod\tstock={8}\trelease_time={n}\trelease_qualifier={A=Anticipated,C=Cancelled,}\tprice={n}\n{.\
+        ParticipantPosition\tmpid={4}\tstock={8}\tprimary_market_maker={Y=true,N=false,}\tmarket_maker_mode={N=Normal,P=Passive,S=Syndicate,\
+            R=Presyndicate,L=Penalty,}\tmarket_participant_state={A=Active,E=Excused,W=Withdrawn,S=Suspended,D=Deleted,}\n{.\
+        {.\
+        RetailPriceImprovementIndicator\tstock={8}\tinterest_flag={B=RPIAvailableBuySide,S=RPIAvailableSellSide,A=RPIAvailableBothSides,\
+            N=RPINoneAvailable,}\n{.\
+        {.\
+        NonCrossTrade\treference={n}\tside={B=Buy,S=Sell,}\tshares={n}\tstock={8}\tprice={n}\tmatch_number={n}\n{.\
+        CrossTrade\tshares={n}\tstock={8}\tcross_price={n}\tmatch_number={n}\tcross_type={O=Opening,C=Closing,H=IpoOrHalted,I=Intraday,\
+            A=ExtendedTradingClose,}\n{.\
+        StockDirectory\tstock={8}\tmarket_category={Q=NasdaqGlobalSelect,G=NasdaqGlobalMarket,S=NasdaqCapitalMarket,N=Nyse,A=NyseMkt,P=NyseArca,\
+            Z=BatsZExchange,V=InvestorsExchange, =Unavailable,}\tfinancial_status={N=Normal,D=Deficient,E=Delinquent,Q=Bankrupt,S=Suspended,\
+            G=DeficientBankrupt,H=DeficientDelinquent,J=DelinquentBankrupt,K=DeficientDelinquentBankrupt,C=EtpSuspended, =Unavailable,}\
+            \tround_lot_size={n}\tround_lots_only={Y=true,N=false,}\tissue_classification={A=AmericanDepositaryShare,B=Bond,C=CommonStock,\
+            F=DepositoryReceipt,I=A144,L=LimitedPartnership,N=Notes,O=OrdinaryShare,P=PreferredStock,Q=OtherSecurities,R=Right,\
+            S=SharesOfBeneficialInterest,T=ConvertibleDebenture,U=Unit,V=UnitsPerBenifInt,W=Warrant,}\tissue_subtype={A =PreferredTrustSecurities,\
+            AI=AlphaIndexETNs,B =IndexBasedDerivative,C =CommonShares,CB=CommodityBasedTrustShares,CF=CommodityFuturesTrustShares,\
+            CL=CommodityLinkedSecurities,CM=CommodityIndexTrustShares,CO=CollateralizedMortgageObligation,CT=CurrencyTrustShares,\
+            CU=CommodityCurrencyLinkedSecurities,CW=CurrencyWarrants,D =GlobalDepositaryShares,E =ETFPortfolioDepositaryReceipt,EG=EquityGoldShares,\
+            EI=ETNEquityIndexLinkedSecurities,EM=ExchangeTradedManagedFunds,EN=ExchangeTradedNotes,EU=EquityUnits,F =Holdrs,\
+            FI=ETNFixedIncomeLinkedSecurities,FL=ETNFuturesLinkedSecurities,G =GlobalShares,I =ETFIndexFundShares,IR=InterestRate,IW=IndexWarrant,\
+            IX=IndexLinkedExchangeableNotes,J =CorporateBackedTrustSecurity,L =ContingentLitigationRight,LL=Llc,M =EquityBasedDerivative,\
+            MF=ManagedFundShares,ML=ETNMultiFactorIndexLinkedSecurities,MT=ManagedTrustSecurities,N =NYRegistryShares,O =OpenEndedMutualFund,\
+            P =PrivatelyHeldSecurity,PP=PoisonPill,PU=PartnershipUnits,Q =ClosedEndFunds,R =RegS,RC=CommodityRedeemableCommodityLinkedSecurities,\
+            RF=ETNRedeemableFuturesLinkedSecurities,RT=REIT,RU=CommodityRedeemableCurrencyLinkedSecurities,S =Seed,SC=SpotRateClosing,\
+            SI=SpotRateIntraday,T =TrackingStock,TC=TrustCertificates,TU=TrustUnits,U =Portal,V =ContingentValueRight,W =TrustIssuedReceipts,\
+            WC=WorldCurrencyOption,X =Trust,Y =Other,Z =NotApplicable,}\tauthenticity={P=true,T=false,}\tshort_sale_threshold={Y=Some(true),\
+            N=Some(false), =None,}\tipo_flag={Y=Some(true),N=Some(false), =None,}\tluld_ref_price_tier={1=Tier1,2=Tier2, =Na,}\
+            \tetp_flag={Y=Some(true),N=Some(false), =None,}\tetp_leverage_factor={n}\tinverse_indicator={Y=true,N=false,}\n{.\
+        SystemEvent\tevent={O=StartOfMessages,S=StartOfSystemHours,Q=StartOfMarketHours,M=EndOfMarketHours,E=EndOfSystemHours,C=EndOfMessages,}\
+            \n{.\
+        {.\
+        ReplaceOrder\told_reference={n}\tnew_reference={n}\tshares={n}\tprice={n}\n{.\
+        MwcbDeclineLevel\tlevel1={n}\tlevel2={n}\tlevel3={n}\n{.\
+        Breach\tlevel={1=L1,2=L2,3=L3,}\n{.\
+        OrderCancelled\treference={n}\tcancelled={n}\n{.\
+        RegShoRestriction\tstock={8}\taction={0=None,1=Intraday,2=Extant,}\n{.";
     let starts = layouts::starts_of(table);
     let mut out = io::large_buffer();
     let mut written = true;

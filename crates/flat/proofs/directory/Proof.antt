@@ -4,63 +4,120 @@ use borrow.Author.Needs.{needs}
 use Rattle.flat.proofs.directory.Statement.{statement}
 use Rattle.flat.proofs.directory.Tie as tie
 
-category-requires : tie.Need-category-requires
-category-requires c κs = search needs
+category-code-requires : tie.Need-category-code-requires
+category-code-requires c κs = search needs
 
-status-requires : tie.Need-status-requires
-status-requires c κs = search needs
+cast-t11 : tie.Need-cast-t11
+cast-t11 c = search needs
 
-cast-t12 : tie.Need-cast-t12
-cast-t12 c = search needs
+status-code-requires : tie.Need-status-code-requires
+status-code-requires c κs = search needs
 
-yes-no-requires : tie.Need-yes-no-requires
-yes-no-requires c κs = search needs
+cast-t13 : tie.Need-cast-t13
+cast-t13 c = search needs
 
-class-requires : tie.Need-class-requires
-class-requires c κs = search needs
+cast-t14 : tie.Need-cast-t14
+cast-t14 c = search needs
 
-subtype-requires : tie.Need-subtype-requires
-subtype-requires c κs = search needs
+yes-no-code-requires : tie.Need-yes-no-code-requires
+yes-no-code-requires c κs = search needs
 
-yes-no-requires-2 : tie.Need-yes-no-requires-2
-yes-no-requires-2 c κs = search needs
+cast-t16 : tie.Need-cast-t16
+cast-t16 c = search needs
 
-flag-requires : tie.Need-flag-requires
-flag-requires c κs = search needs
+class-code-requires : tie.Need-class-code-requires
+class-code-requires c κs = search needs
 
-flag-requires-2 : tie.Need-flag-requires-2
-flag-requires-2 c κs = search needs
+cast-t18 : tie.Need-cast-t18
+cast-t18 c = search needs
 
-tier-requires : tie.Need-tier-requires
-tier-requires c κs = search needs
+subtype-code-requires : tie.Need-subtype-code-requires
+subtype-code-requires c κs = search needs
 
-flag-requires-3 : tie.Need-flag-requires-3
-flag-requires-3 c κs = search needs
+cast-t20 : tie.Need-cast-t20
+cast-t20 c = search needs
 
-cast-t21 : tie.Need-cast-t21
-cast-t21 c = search needs
+authenticity-code-requires : tie.Need-authenticity-code-requires
+authenticity-code-requires c κs = search needs
 
-yes-no-requires-3 : tie.Need-yes-no-requires-3
-yes-no-requires-3 c κs = search needs
+cast-t22 : tie.Need-cast-t22
+cast-t22 c = search needs
+
+flag-code-requires : tie.Need-flag-code-requires
+flag-code-requires c κs = search needs
+
+cast-t24 : tie.Need-cast-t24
+cast-t24 c = search needs
+
+flag-code-requires-2 : tie.Need-flag-code-requires-2
+flag-code-requires-2 c κs = search needs
+
+cast-t26 : tie.Need-cast-t26
+cast-t26 c = search needs
+
+tier-code-requires : tie.Need-tier-code-requires
+tier-code-requires c κs = search needs
+
+cast-t28 : tie.Need-cast-t28
+cast-t28 c = search needs
+
+flag-code-requires-3 : tie.Need-flag-code-requires-3
+flag-code-requires-3 c κs = search needs
+
+cast-t30 : tie.Need-cast-t30
+cast-t30 c = search needs
+
+cast-t31 : tie.Need-cast-t31
+cast-t31 c = search needs
+
+yes-no-code-requires-2 : tie.Need-yes-no-code-requires-2
+yes-no-code-requires-2 c κs = search needs
+
+cast-t33 : tie.Need-cast-t33
+cast-t33 c = search needs
 
 returns : tie.Need-returns
-returns c = rw (c .yes-no3 .ensures, c .before .before .flag3 .ensures, c .before .before .before .tier .ensures, c .before .before .before .before .flag2 .ensures, c .before .before .before .before .before .flag .ensures, c .before .before .before .before .before .before .yes-no2 .ensures, c .before .before .before .before .before .before .before .subtype .ensures, c .before .before .before .before .before .before .before .before .class .ensures, c .before .before .before .before .before .before .before .before .before .yes-no .ensures, c .before .before .before .before .before .before .before .before .before .before .before .status .ensures, c .before .before .before .before .before .before .before .before .before .before .before .before .category .ensures)
+returns c =
+    rw (
+      c .yes-no-code2 .ensures,
+      c .before .before .flag-code3 .ensures,
+      c .before .before .before .tier-code .ensures,
+      c .before .before .before .before .flag-code2 .ensures,
+      c .before .before .before .before .before .flag-code .ensures,
+      c .before .before .before .before .before .before .authenticity-code .ensures,
+      c .before .before .before .before .before .before .before .subtype-code .ensures,
+      c .before .before .before .before .before .before .before .before .class-code .ensures,
+      c .before .before .before .before .before .before .before .before .before .yes-no-code .ensures,
+      c .before .before .before .before .before .before .before .before .before .before .before .status-code .ensures,
+      c .before .before .before .before .before .before .before .before .before .before .before .before .category-code .ensures,
+    )
 
 pub directory-spec : {M : Type 1} → statement M
 directory-spec =
     tie.close
     (tie.spec
-    category-requires
-    status-requires
-    cast-t12
-    yes-no-requires
-    class-requires
-    subtype-requires
-    yes-no-requires-2
-    flag-requires
-    flag-requires-2
-    tier-requires
-    flag-requires-3
-    cast-t21
-    yes-no-requires-3
+    category-code-requires
+    cast-t11
+    status-code-requires
+    cast-t13
+    cast-t14
+    yes-no-code-requires
+    cast-t16
+    class-code-requires
+    cast-t18
+    subtype-code-requires
+    cast-t20
+    authenticity-code-requires
+    cast-t22
+    flag-code-requires
+    cast-t24
+    flag-code-requires-2
+    cast-t26
+    tier-code-requires
+    cast-t28
+    flag-code-requires-3
+    cast-t30
+    cast-t31
+    yes-no-code-requires-2
+    cast-t33
     returns)

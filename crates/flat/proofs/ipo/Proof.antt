@@ -4,17 +4,31 @@ use borrow.Author.Needs.{needs}
 use Rattle.flat.proofs.ipo.Statement.{statement}
 use Rattle.flat.proofs.ipo.Tie as tie
 
-cast-t3 : tie.Need-cast-t3
-cast-t3 c = search needs
+qualifier-code-requires : tie.Need-qualifier-code-requires
+qualifier-code-requires c κs = search needs
 
-qualifier-requires : tie.Need-qualifier-requires
-qualifier-requires c κs = search needs
+cast-qualifier : tie.Need-cast-qualifier
+cast-qualifier c = search needs
 
-cast-t5 : tie.Need-cast-t5
-cast-t5 c = search needs
+cast-time : tie.Need-cast-time
+cast-time c = search needs
+
+cast-numbers : tie.Need-cast-numbers
+cast-numbers c = search needs
+
+numbers-requires : tie.Need-numbers-requires
+numbers-requires c κs = search needs
 
 returns : tie.Need-returns
-returns c = rw (c .before .qualifier .ensures)
+returns c = rw (c .numbers .ensures, c .before .before .before .qualifier-code .ensures)
 
 pub ipo-spec : {M : Type 1} → statement M
-ipo-spec = tie.close (tie.spec cast-t3 qualifier-requires cast-t5 returns)
+ipo-spec =
+    tie.close
+    (tie.spec
+    qualifier-code-requires
+    cast-qualifier
+    cast-time
+    cast-numbers
+    numbers-requires
+    returns)

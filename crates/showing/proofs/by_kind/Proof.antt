@@ -4,6 +4,9 @@ use borrow.Author.Needs.{needs}
 use Rattle.showing.proofs.by_kind.Statement.{statement}
 use Rattle.showing.proofs.by_kind.Tie as tie
 
+add-slot : tie.Need-add-slot
+add-slot c = search needs
+
 returns : tie.Need-returns
 returns c = search needs
 
@@ -24,4 +27,5 @@ returns-2 c = c .before .before .put .ensures (search needs)
 
 pub by-kind-spec : {M : Type 1} → statement M
 by-kind-spec =
-    tie.close (tie.spec returns mul-put shared-slice-read-put put-requires same-length returns-2)
+    tie.close
+    (tie.spec add-slot returns mul-put shared-slice-read-put put-requires same-length returns-2)

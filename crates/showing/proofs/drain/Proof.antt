@@ -10,7 +10,7 @@ use Rattle.showing.proofs.drain.Statement.{statement}
 use Rattle.showing.proofs.drain.Tie as tie
 
 abbrev Inv-loop : tie.InvT-loop
-Inv-loop b table starts out₀ at0 s₀ at₀ out s at = (5120 ≤ length out) × (at ≤ length out) × (length out ≡ length out₀)
+Inv-loop b table starts out₀ at0 s₀ at₀ out s at = (6144 ≤ length out) × (at ≤ length out) × (length out ≡ length out₀)
 
 abbrev μ-loop : tie.MeasureT-loop
 μ-loop b table starts out₀ at0 s₀ at₀ out s at = 18446744073709551616 - s .messages
