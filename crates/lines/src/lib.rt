@@ -219,6 +219,7 @@ const PAIRS: [u8; 200] = [
     57,
 ];
 
+// Two digits, zeros in front too, from the table.
 fn two(n: u64, table: &[u8], out: &mut [u8], at: usize) -> usize
     requires { ⌜ (n < 100) × (now table ≡ pairs) × (at + 2 ≤ length (now out)) ⌝ }
     ensures { λ r. ⌜ Wrote (twoOf n) (now (out .entry)) at (now (out .exit)) r ⌝ }
@@ -231,6 +232,7 @@ fn two(n: u64, table: &[u8], out: &mut [u8], at: usize) -> usize
     at + 2
 }
 
+// Four digits.
 fn four(n: u64, table: &[u8], out: &mut [u8], at: usize) -> usize
     requires { ⌜ (n < 10000) × (now table ≡ pairs) × (at + 4 ≤ length (now out)) ⌝ }
     ensures { λ r. ⌜ Wrote (fourOf n) (now (out .entry)) at (now (out .exit)) r ⌝ }
@@ -239,6 +241,7 @@ fn four(n: u64, table: &[u8], out: &mut [u8], at: usize) -> usize
     two(n % 100, table, out, k)
 }
 
+// A number of one digit.
 fn digit(n: u64, out: &mut [u8], at: usize) -> usize
     requires { ⌜ (n < 10) × (at + 1 ≤ length (now out)) ⌝ }
     ensures { λ r. ⌜ Wrote (decimalOf n) (now (out .entry)) at (now (out .exit)) r ⌝ }
@@ -285,6 +288,7 @@ fn offset_text(n: u64, table: &[u8], out: &mut [u8], at: usize) -> usize
     text::decimal(n, out, at)
 }
 
+// What stands between the offset and the size of an accepted frame.
 fn ok_tag(tag: u8, out: &mut [u8], at: usize) -> usize
     requires { ⌜ at + 6 ≤ length (now out) ⌝ }
     ensures { λ r. ⌜ Wrote (okText ++ (tag ∷ 32 ∷ [])) (now (out .entry)) at (now (out .exit)) r ⌝ }
@@ -343,6 +347,7 @@ enum Look {
     Bad(u8, usize),
 }
 
+// The frame rule's answer, as a line tells it.
 fn look_of(what: Verdict) -> Look
     ensures { λ r. ⌜ r ≡ lookOf what ⌝ }
 {
@@ -363,6 +368,7 @@ fn looked(s: &[u8], size: usize, rows: &[u64; 256]) -> Look
     look_of(walk::judge(s, size))
 }
 
+// The lines of accepted frames stop at a frame that is none.
 fn stopped_at(at: usize, to: usize, count: u64, what: Look, size: usize) -> Halted
     ensures { λ r. ⌜ r ≡ haltedOf at to count what size ⌝ }
 {
@@ -445,6 +451,7 @@ fn told_accepted(
     }
 }
 
+// Whether they stop for want of room.
 fn is_full(why: Halt) -> bool
     ensures { λ r. ⌜ r ≡ isFull why ⌝ }
 {
@@ -541,6 +548,7 @@ fn cut(offset: u64, frames: u64, accepted: u64, rest: &[u8]) -> Walk
     }
 }
 
+// The state between two frames.
 fn start(offset: u64, frames: u64, accepted: u64) -> Walk
     ensures { λ r. ⌜ r ≡ startOf offset frames accepted ⌝ }
 {
@@ -718,6 +726,7 @@ pub fn walk_block(w: Walk, block: &[u8], from: usize, out: &mut [u8], at: usize)
     from_inside(w, block, from, &rows, &table, out, at)
 }
 
+// Whether the walk refused the block.
 pub fn stops(why: Why) -> bool
     ensures { λ r. ⌜ r ≡ stopsOf why ⌝ }
 {
