@@ -81,6 +81,7 @@ fn numbers(
     ]
 }
 
+// An add order is an A without a participant, an F with one.
 fn attributed(x: AddOrder, who: Mpid) -> [u64; 19]
     ensures { λ r. ⌜ r ≡ bodyNumbers (orderValues x who) ⌝ }
 {
@@ -239,6 +240,7 @@ fn retail(x: RetailPriceImprovementIndicator) -> [u64; 19]
     numbers(b'N', x.stock, interest, 0, 0, 0, 0, 0, 0, 0)
 }
 
+// The stock directory has more values than `numbers` takes; 82 is its tag, R.
 fn directory(x: StockDirectory) -> [u64; 19]
     ensures { λ r. ⌜ r ≡ bodyNumbers (values (Body·.StockDirectory x)) ⌝ }
 {
@@ -396,6 +398,7 @@ fn body_numbers(body: Body) -> [u64; 19]
     }
 }
 
+// A message: its header's numbers stand before its body's.
 fn message(state: Stream, m: Message) -> Flat
     ensures { λ r. ⌜ r ≡ messageOf state m ⌝ }
 {
@@ -412,6 +415,7 @@ fn message(state: Stream, m: Message) -> Flat
     }
 }
 
+// An answer that is no message.
 fn said(state: Stream, kind: u64, a: u64, b: u64) -> Flat
     ensures { λ r. ⌜ r ≡ saidOf state kind a b ⌝ }
 {

@@ -28,6 +28,7 @@ fn decimal(n: u64, out: &mut [u8], at: usize) -> usize
     text::decimal(n, out, at)
 }
 
+// A digit of `\xHH`.
 fn hex(n: u8) -> u8
     requires { ⌜ n ≤ 15 ⌝ }
 {
@@ -143,6 +144,7 @@ struct Mark {
     at: usize,
 }
 
+// The name of a code, of those in the braces, from behind the opening one on.
 fn listed(layout: &[u8], from: usize, code: u64, out: &mut [u8], at: usize) -> Mark
     requires { ⌜ (from ≤ length (now layout)) × (at + (length (now layout) - from) ≤ length (now out)) ⌝ }
     ensures { λ r. ⌜ (from ≤ r .from) × (r .from ≤ length (now (layout .entry))) × (r .at + from ≤ at + r .from) ⌝ }
@@ -156,6 +158,7 @@ fn listed(layout: &[u8], from: usize, code: u64, out: &mut [u8], at: usize) -> M
     }
 }
 
+// A number or a text, by what stands alone in the braces.
 fn plain(kind: u8, v: u64, out: &mut [u8], at: usize) -> usize
     requires { ⌜ at + 32 ≤ length (now out) ⌝ }
     ensures { λ r. ⌜ r ≤ at + 32 ⌝ }
@@ -212,7 +215,7 @@ fn filled(layout: &[u8], start: usize, v: &[u64], out: &mut [u8], at0: usize) ->
     at + (end - from)
 }
 
-// The same, if there is room for the most that it could be; else nothing is put.
+// The same, if there is room for the most that it could be; else nothing is put. There are at most 18 values, so 576 bytes for all of them.
 pub fn put(layout: &[u8], start: usize, v: &[u64], out: &mut [u8], at: usize) -> usize
     ensures { λ r. ⌜ (at ≤ length (now (out .entry)) → r ≤ length (now (out .entry))) ⌝ }
 {

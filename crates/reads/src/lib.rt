@@ -64,7 +64,7 @@ fn is_whole(list: &[u8], i: usize) -> bool
     list.len() - i >= followed(n) + 2
 }
 
-// Behind the case that begins at a place; the place itself where no whole case stands there.
+// Behind the case that begins at a place; the place itself where no whole case stands there; the list's end for a place behind it.
 pub fn case_end(list: &[u8], from: usize) -> usize
     ensures { λ r. ⌜ r ≤ length (now (list .entry)) ⌝ }
 {
@@ -98,6 +98,7 @@ pub struct Read {
     pub failed: bool,
 }
 
+// So many bytes of the list, from a place on, into the free part.
 fn copy(list: &[u8], from: usize, free: &mut [u8], n: usize)
     requires { ⌜ (from + n ≤ length (now list)) × (n ≤ length (now free)) ⌝ }
 {
