@@ -25,12 +25,6 @@ use Rattle.lent.proofs.room_on.Met as g-thm
 use Rattle.lent.proofs.Apart.{room-parts, room-into, room-back}
 use Rattle.lent.proofs.Held.{answer-val, Fits, fits, made, num-val, num, changed, answer-is, lent-at, opens-stream, closes-stream, owns-answer, loads}
 use Rattle.lent.proofs.Held.{stores, lands-step, answers, in-state, hands, gone, adds-num}
-use Rattle.lent.proofs.Held.{answer-val, Fits, fits, made, num-val, num, changed, answer-is, lent-at, opens-stream, closes-stream, owns-answer, loads}
-use Rattle.lent.proofs.Held.{stores, lands-step, answers, in-state, hands, gone, adds-num}
-use Rattle.lent.proofs.Held.{answer-val, Fits, fits, made, num-val, num, changed, answer-is, lent-at, opens-stream, closes-stream, owns-answer, loads}
-use Rattle.lent.proofs.Held.{stores, lands-step, answers, in-state, hands, gone, adds-num}
-use Rattle.lent.proofs.Held.{answer-val, Fits, fits, made, num-val, num, changed, answer-is, lent-at, opens-stream, closes-stream, owns-answer, loads}
-use Rattle.lent.proofs.Held.{stores, lands-step, answers, in-state, hands, gone, adds-num}
 use Rattle.lent.proofs.Walk.{by-walk, hears}
 use Rattle.lent.proofs.make_room.Key.{name as #lent·make-room}
 use Rattle.lent.proofs.make_room as f

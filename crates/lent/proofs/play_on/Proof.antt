@@ -38,12 +38,6 @@ use Rattle.lent.proofs.played_on.Symbol.{name as #lent·played-on}
 use Rattle.lent.proofs.played_on.Met as g-thm
 use Rattle.lent.proofs.Held.{state-val, state-name, state-parts, Fits, fits, num-val, num, lent-at, opens-stream, closes-stream, loads, stores, hands}
 use Rattle.lent.proofs.Held.{gone, adds-num, adds-flag}
-use Rattle.lent.proofs.Held.{state-val, state-name, state-parts, Fits, fits, num-val, num, lent-at, opens-stream, closes-stream, loads, stores, hands}
-use Rattle.lent.proofs.Held.{gone, adds-num, adds-flag}
-use Rattle.lent.proofs.Held.{state-val, state-name, state-parts, Fits, fits, num-val, num, lent-at, opens-stream, closes-stream, loads, stores, hands}
-use Rattle.lent.proofs.Held.{gone, adds-num, adds-flag}
-use Rattle.lent.proofs.Held.{state-val, state-name, state-parts, Fits, fits, num-val, num, lent-at, opens-stream, closes-stream, loads, stores, hands}
-use Rattle.lent.proofs.Held.{gone, adds-num, adds-flag}
 use Rattle.lent.proofs.Walk.{by-walk, hears}
 use Rattle.lent.proofs.play_on.Key.{name as #lent·play-on}
 use Rattle.lent.proofs.play_on as f

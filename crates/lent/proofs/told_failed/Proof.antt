@@ -23,12 +23,6 @@ use Rattle.lent.proofs.failed_on.Met as g-thm
 use Rattle.lent.proofs.Apart.{failed-parts, failed-into, failed-back}
 use Rattle.lent.proofs.Held.{answer-val, Fits, fits, made, num-val, num, answer-is, lent-at, opens-stream, closes-stream, owns-answer, loads, stores}
 use Rattle.lent.proofs.Held.{lands-step, answers, in-state, hands, gone, adds-num, adds-flag}
-use Rattle.lent.proofs.Held.{answer-val, Fits, fits, made, num-val, num, answer-is, lent-at, opens-stream, closes-stream, owns-answer, loads, stores}
-use Rattle.lent.proofs.Held.{lands-step, answers, in-state, hands, gone, adds-num, adds-flag}
-use Rattle.lent.proofs.Held.{answer-val, Fits, fits, made, num-val, num, answer-is, lent-at, opens-stream, closes-stream, owns-answer, loads, stores}
-use Rattle.lent.proofs.Held.{lands-step, answers, in-state, hands, gone, adds-num, adds-flag}
-use Rattle.lent.proofs.Held.{answer-val, Fits, fits, made, num-val, num, answer-is, lent-at, opens-stream, closes-stream, owns-answer, loads, stores}
-use Rattle.lent.proofs.Held.{lands-step, answers, in-state, hands, gone, adds-num, adds-flag}
 use Rattle.lent.proofs.Walk.{by-walk, hears}
 use Rattle.lent.proofs.told_failed.Key.{name as #lent·told-failed}
 use Rattle.lent.proofs.told_failed as f
