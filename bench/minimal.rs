@@ -1,5 +1,6 @@
 // What reading costs without any judgement: all fields of A, D, U, E and X, of the mix `core`, by a reader that checks no code and no text and trusts
-// every length; S is stepped over. It reads 8,192 bytes at a time, as the crate does, and prints the messages and the fields, xored, so that none is left out.
+// every length. S is stepped over; the last messages, where fewer than 52 bytes are left, are not read. It reads 8,192 bytes at a time, as the crate
+// does, and prints the messages and the fields, xored, so that none is left out.
 use std::io::{self, Read};
 
 fn field(b: &[u8], at: usize, width: usize) -> u64 {

@@ -55,6 +55,14 @@ macro_rules! body {
     }};
 }
 
+// The same of a struct, whose fields are said once: the pattern that takes it apart has them all, or the compiler refuses it.
+macro_rules! record {
+    ($out:ident, $name:literal, $x:ident: $t:ident $(, $f:ident)*) => {{
+        let $t { $($f),* } = $x;
+        body!($out, $name $(, $f)*)
+    }};
+}
+
 pub fn line(out: &mut Vec<u8>, m: &Message) {
     out.extend_from_slice(b"tag=");
     out.push(m.tag);
@@ -65,96 +73,44 @@ pub fn line(out: &mut Vec<u8>, m: &Message) {
     out.extend_from_slice(b"\ttimestamp=");
     m.timestamp.put(out);
     match &m.body {
-        Body::AddOrder(AddOrder { reference, side, shares, stock, price, mpid }) => body!(out, "AddOrder", reference, side, shares, stock, price, mpid),
+        Body::AddOrder(x) => record!(out, "AddOrder", x: AddOrder, reference, side, shares, stock, price, mpid),
         Body::Breach(level) => body!(out, "Breach", level),
         Body::BrokenTrade { match_number } => body!(out, "BrokenTrade", match_number),
-        Body::CrossTrade(CrossTrade { shares, stock, cross_price, match_number, cross_type }) => {
-            body!(out, "CrossTrade", shares, stock, cross_price, match_number, cross_type)
-        }
+        Body::CrossTrade(x) => record!(out, "CrossTrade", x: CrossTrade, shares, stock, cross_price, match_number, cross_type),
         Body::DeleteOrder { reference } => body!(out, "DeleteOrder", reference),
-        Body::Imbalance(ImbalanceIndicator {
-            paired_shares,
-            imbalance_shares,
-            imbalance_direction,
-            stock,
-            far_price,
-            near_price,
-            current_ref_price,
-            cross_type,
-            price_variation_indicator,
-        }) => body!(
-            out,
-            "Imbalance",
-            paired_shares,
-            imbalance_shares,
-            imbalance_direction,
-            stock,
-            far_price,
-            near_price,
-            current_ref_price,
-            cross_type,
+        Body::Imbalance(x) => record!(
+            out, "Imbalance", x: ImbalanceIndicator,
+            paired_shares, imbalance_shares, imbalance_direction, stock, far_price, near_price, current_ref_price, cross_type,
             price_variation_indicator
         ),
-        Body::IpoQuotingPeriod(IpoQuotingPeriod { stock, release_time, release_qualifier, price }) => {
-            body!(out, "IpoQuotingPeriod", stock, release_time, release_qualifier, price)
-        }
+        Body::IpoQuotingPeriod(x) => record!(out, "IpoQuotingPeriod", x: IpoQuotingPeriod, stock, release_time, release_qualifier, price),
         Body::LULDAuctionCollar { stock, ref_price, upper_price, lower_price, extension } => {
             body!(out, "LULDAuctionCollar", stock, ref_price, upper_price, lower_price, extension)
         }
         Body::MwcbDeclineLevel { level1, level2, level3 } => body!(out, "MwcbDeclineLevel", level1, level2, level3),
-        Body::NonCrossTrade(NonCrossTrade { reference, side, shares, stock, price, match_number }) => {
-            body!(out, "NonCrossTrade", reference, side, shares, stock, price, match_number)
-        }
+        Body::NonCrossTrade(x) => record!(out, "NonCrossTrade", x: NonCrossTrade, reference, side, shares, stock, price, match_number),
         Body::OrderCancelled { reference, cancelled } => body!(out, "OrderCancelled", reference, cancelled),
         Body::OrderExecuted { reference, executed, match_number } => body!(out, "OrderExecuted", reference, executed, match_number),
         Body::OrderExecutedWithPrice { reference, executed, match_number, printable, price } => {
             body!(out, "OrderExecutedWithPrice", reference, executed, match_number, printable, price)
         }
-        Body::ParticipantPosition(MarketParticipantPosition { mpid, stock, primary_market_maker, market_maker_mode, market_participant_state }) => {
-            body!(out, "ParticipantPosition", mpid, stock, primary_market_maker, market_maker_mode, market_participant_state)
-        }
+        Body::ParticipantPosition(x) => record!(
+            out, "ParticipantPosition", x: MarketParticipantPosition,
+            mpid, stock, primary_market_maker, market_maker_mode, market_participant_state
+        ),
         Body::RegShoRestriction { stock, action } => body!(out, "RegShoRestriction", stock, action),
-        Body::ReplaceOrder(ReplaceOrder { old_reference, new_reference, shares, price }) => {
-            body!(out, "ReplaceOrder", old_reference, new_reference, shares, price)
-        }
-        Body::StockDirectory(StockDirectory {
-            stock,
-            market_category,
-            financial_status,
-            round_lot_size,
-            round_lots_only,
-            issue_classification,
-            issue_subtype,
-            authenticity,
-            short_sale_threshold,
-            ipo_flag,
-            luld_ref_price_tier,
-            etp_flag,
-            etp_leverage_factor,
-            inverse_indicator,
-        }) => body!(
-            out,
-            "StockDirectory",
-            stock,
-            market_category,
-            financial_status,
-            round_lot_size,
-            round_lots_only,
-            issue_classification,
-            issue_subtype,
-            authenticity,
-            short_sale_threshold,
-            ipo_flag,
-            luld_ref_price_tier,
-            etp_flag,
-            etp_leverage_factor,
-            inverse_indicator
+        Body::ReplaceOrder(x) => record!(out, "ReplaceOrder", x: ReplaceOrder, old_reference, new_reference, shares, price),
+        Body::StockDirectory(x) => record!(
+            out, "StockDirectory", x: StockDirectory,
+            stock, market_category, financial_status, round_lot_size, round_lots_only, issue_classification, issue_subtype, authenticity,
+            short_sale_threshold, ipo_flag, luld_ref_price_tier, etp_flag, etp_leverage_factor, inverse_indicator
         ),
         Body::SystemEvent { event } => body!(out, "SystemEvent", event),
         Body::TradingAction { stock, trading_state, reason } => body!(out, "TradingAction", stock, trading_state, reason),
-        Body::RetailPriceImprovementIndicator(RetailPriceImprovementIndicator { stock, interest_flag }) => {
-            body!(out, "RetailPriceImprovementIndicator", stock, interest_flag)
-        }
+        Body::RetailPriceImprovementIndicator(x) => record!(
+            out, "RetailPriceImprovementIndicator", x: RetailPriceImprovementIndicator,
+            stock, interest_flag
+        ),
     }
     out.push(b'\n');
 }
