@@ -1,4 +1,5 @@
--- The scope's examples 1 to 11, one table: which bytes, which answer is asked of them, and what it is. An accepted message stands whole.
+-- The scope's examples 1 to 11, its further runs and its page of five lines, one table: which bytes, which answer is asked of them, and what it is. An accepted
+-- message stands whole.
 -- Assumes nothing.
 use Prim.Native.Nat.{ℕ}
 use mathlib.Core.Path.{_≡_}
@@ -13,6 +14,9 @@ use Rattle.codes.specs.declared.IssueClassification.the-variants.{OtherSecuriti
 use Rattle.codes.specs.declared.IssueSubType.the-variants.{ETFPortfolioDepositaryReceipt}
 use Rattle.codes.specs.declared.LuldRefPriceTier.the-variants.{Tier1}
 use Rattle.codes.specs.declared.MarketCategory.the-variants.{NasdaqGlobalMarket}
+use Rattle.codes.specs.declared.Side.the-variants.{Buy}
+use Rattle.records.specs.declared.Mpid.the-variants as Mpid·
+use Rattle.records.specs.declared.AddOrder.{AddOrder}
 use Rattle.records.specs.declared.CrossTrade.{CrossTrade}
 use Rattle.records.specs.declared.StockDirectory.{StockDirectory}
 use Rattle.records.specs.declared.Body.{Body}
@@ -22,13 +26,13 @@ use Rattle.reader.specs.declared.Window.{Window}
 use Rattle.reader.specs.declared.Window.the-variants.{Message as Accepted, Incomplete, Refused}
 use Rattle.reader.specs.Window.{windowOf}
 use Rattle.walk.specs.declared.Verdict.{Verdict}
-use Rattle.walk.specs.declared.Verdict.the-variants.{Bad}
+use Rattle.walk.specs.declared.Verdict.the-variants.{Accepted as Good, Bad}
 use Rattle.walk.specs.Walk.{frameOf}
 use Rattle.walk.specs.Frames.{Entry, Walked, walkOf}
 
 -- ---- what a row says
 
--- the number on the page, the bytes, and what the window's answer to them is; the frame rule's; the walk's
+-- the number on the page (0: it has none), the bytes, and what the window's answer to them is; the frame rule's; the walk's
 pub data Row : Type 0 where
   window : ℕ → List ℕ → Window → Row
   frame : ℕ → List ℕ → Verdict → Row
@@ -119,7 +123,29 @@ etp-yes = record {
 abbrev a-with-ff : ℕ → List ℕ
 a-with-ff side = 0x00 ∷ 0x24 ∷ 0x41 ∷ head ++ n8 ++ (side ∷ []) ++ n4 ++ (0xff ∷ 0x41 ∷ 0x50 ∷ 0x4c ∷ 0x20 ∷ 0x20 ∷ 0x20 ∷ [])
 
--- a frame of this size at this offset, refused
+-- an A with this stock
+abbrev a-with-stock : List ℕ → List ℕ
+a-with-stock t = 0x00 ∷ 0x24 ∷ 0x41 ∷ head ++ n8 ++ (0x42 ∷ []) ++ n4 ++ t ++ n4
+
+-- one with é (c3 a9) in it
+abbrev accented : AddOrder
+accented = record { reference = 42; side = Buy; shares = 100; stock = 0x434146c3a9202020; price = 100; mpid = Mpid·.Absent }
+
+-- line two of the page behind its length, and the message that it is
+abbrev line-two : List ℕ
+line-two = 0x44 ∷ head ++ n8
+
+abbrev deletes : Message
+deletes = with-head 0x44 (Body·.DeleteOrder 42)
+
+-- line three behind its length
+abbrev line-three : List ℕ
+line-three = 0x53 ∷ 0x00 ∷ 0x00 ∷ 0x00 ∷ 0x00 ∷ 0x00 ∷ 0x00 ∷ 0x00 ∷ 0x00 ∷ 0x00 ∷ 0x03 ∷ 0x58 ∷ []
+
+-- a frame of this size at this offset, accepted; refused
+abbrev accepted : ℕ → ℕ → Message → Entry
+accepted at size m = record { at = at; size = size; what = Good m }
+
 abbrev refused : ℕ → ℕ → ℕ → ℕ → Entry
 refused at size number place = record { at = at; size = size; what = Bad number place }
 
@@ -143,7 +169,7 @@ rows =
     ∷ window 5 (0x00 ∷ 0x0c ∷ 0x5a ∷ 0x00 ∷ 0x00 ∷ 0x00 ∷ 0x00 ∷ 0x00 ∷ 0x00 ∷ 0x00 ∷ 0x00 ∷ 0x00 ∷ 0x01 ∷ []) (Refused 1 2)
     ∷ window 5 (0x00 ∷ 0x0c ∷ 0x5a ∷ 0x00 ∷ 0x00 ∷ 0x00 ∷ 0x00 ∷ 0x00 ∷ 0x00 ∷ 0x00 ∷ 0x00 ∷ 0x00 ∷ []) Incomplete
     -- Line three: 2 at 13.
-    ∷ window 6 (0x00 ∷ 0x0c ∷ 0x53 ∷ 0x00 ∷ 0x00 ∷ 0x00 ∷ 0x00 ∷ 0x00 ∷ 0x00 ∷ 0x00 ∷ 0x00 ∷ 0x00 ∷ 0x03 ∷ 0x58 ∷ []) (Refused 2 13)
+    ∷ window 6 (0x00 ∷ 0x0c ∷ line-three) (Refused 2 13)
     -- Cross code I: legal in Q, 2 at 50 in I.
     ∷ window 7 q-with-i (Accepted (with-head 0x51 (Body·.CrossTrade intraday)) 42)
     ∷ window 7 i-with-i (Refused 2 50)
@@ -160,4 +186,10 @@ rows =
     -- Line one with length 000d and one byte 00 more: 21.
     ∷ frame 11 (0x00 ∷ 0x0d ∷ line-one ++ (0x00 ∷ [])) (Bad 21 0)
     ∷ walk 11 (0x00 ∷ 0x0d ∷ line-one ++ (0x00 ∷ [])) (walked (refused 0 15 21 0 ∷ []) 15 0)
+    -- Further runs: c3 a9 in a stock is legal, c3 as its eighth byte is 3.
+    ∷ window 0 (a-with-stock (0x43 ∷ 0x41 ∷ 0x46 ∷ 0xc3 ∷ 0xa9 ∷ 0x20 ∷ 0x20 ∷ 0x20 ∷ [])) (Accepted (with-head 0x41 (Body·.AddOrder accented)) 38)
+    ∷ window 0 (a-with-stock (0x43 ∷ 0x41 ∷ 0x46 ∷ 0x20 ∷ 0x20 ∷ 0x20 ∷ 0x20 ∷ 0xc3 ∷ [])) (Refused 3 26)
+    -- The page's five lines, as `frames` prints them.
+    ∷ walk 0 ((0x00 ∷ 0x0c ∷ line-one) ++ (0x00 ∷ 0x13 ∷ line-two) ++ (0x00 ∷ 0x0c ∷ line-three) ++ (0x00 ∷ 0x01 ∷ 0x5a ∷ 0x00 ∷ []))
+    (walked (accepted 0 14 opens ∷ accepted 14 21 deletes ∷ refused 35 14 2 13 ∷ refused 49 3 20 0 ∷ []) 52 1)
     ∷ []
