@@ -1,0 +1,51 @@
+-- `words::asked` meets its contract: each turn looks at one argument more.
+-- Assumes nothing.
+use Prim.Native.Nat.{_-_}
+use borrow.Author.Needs.{needs}
+use Rattle.words.proofs.asked.Statement.{statement}
+use Rattle.words.proofs.asked.Tie as tie
+
+abbrev Inv-loop : tie.InvT-loop
+Inv-loop has w₀ n i₀ w i = Unit
+
+abbrev μ-loop : tie.MeasureT-loop
+μ-loop has w₀ n i₀ w i = n - i
+
+arg-count-requires : tie.Need-arg-count-requires Inv-loop μ-loop
+arg-count-requires c κs = search needs
+
+loop-holds : tie.Need-loop-holds Inv-loop μ-loop
+loop-holds c = tt
+
+word-at-requires : tie.Need-word-at-requires Inv-loop μ-loop
+word-at-requires c κs = search needs
+
+with-requires : tie.Need-with-requires Inv-loop μ-loop
+with-requires c κs = search needs
+
+add-i : tie.Need-add-i Inv-loop μ-loop
+add-i c = search needs
+
+loop-less : tie.Need-loop-less Inv-loop μ-loop
+loop-less c = search needs
+
+loop-again : tie.Need-loop-again Inv-loop μ-loop
+loop-again c = tt
+
+returns : tie.Need-returns Inv-loop μ-loop
+returns c = search needs
+
+pub asked-spec : {M : Type 1} → statement M
+asked-spec =
+    tie.close
+    (tie.spec
+    Inv-loop
+    μ-loop
+    arg-count-requires
+    loop-holds
+    word-at-requires
+    with-requires
+    add-i
+    loop-less
+    loop-again
+    returns)

@@ -1,0 +1,39 @@
+-- `words::word_of` meets its contract.
+-- Assumes nothing.
+use mathlib.Core.Path.{sym}
+use borrow.Author.Needs.{needs}
+use Rattle.words.proofs.word_of.Statement.{statement}
+use Rattle.words.proofs.word_of.Tie as tie
+
+slice-aggregate-is : tie.Need-slice-aggregate-is
+slice-aggregate-is c = search needs
+
+is-requires : tie.Need-is-requires
+is-requires c κs = search needs
+
+returns : tie.Need-returns
+returns c = simp (sym (c .before .is .ensures), c .if1 .taken)
+
+slice-aggregate-is-2 : tie.Need-slice-aggregate-is-2
+slice-aggregate-is-2 c = search needs
+
+is-requires-2 : tie.Need-is-requires-2
+is-requires-2 c κs = search needs
+
+returns-2 : tie.Need-returns-2
+returns-2 c = simp (sym (c .before .before .before .before .is .ensures), c .before .before .before .if1 .left, sym (c .before .is2 .ensures), c .if2 .taken)
+
+returns-3 : tie.Need-returns-3
+returns-3 c = simp (sym (c .before .before .before .before .is .ensures), c .before .before .before .if1 .left, sym (c .before .is2 .ensures), c .if2 .left)
+
+pub word-of-spec : {M : Type 1} → statement M
+word-of-spec =
+    tie.close
+    (tie.spec
+    slice-aggregate-is
+    is-requires
+    returns
+    slice-aggregate-is-2
+    is-requires-2
+    returns-2
+    returns-3)

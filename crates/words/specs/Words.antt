@@ -1,0 +1,44 @@
+-- The words of a program, and the byte of an outcome.
+-- Assumes nothing.
+use Prim.Native.Nat.{ℕ}
+use mathlib.Core.Bool.{Bool, true, false, cond}
+use mathlib.Core.List.{List, [], _∷_}
+use lib.Dec.{eqb}
+use Rattle.words.specs.declared.Word.{Word}
+use Rattle.words.specs.declared.Word.the-variants.{Quiet, Status, Other}
+use Rattle.words.specs.declared.Words.{Words}
+use Rattle.words.specs.declared.Outcome.{Outcome}
+use Rattle.words.specs.declared.Outcome.the-variants.{Clean, Found, Failed}
+
+-- the same bytes
+unfoldable pub equal : List ℕ → List ℕ → Bool
+equal [] [] = true
+equal [] (y ∷ t) = false
+equal (x ∷ s) [] = false
+equal (x ∷ s) (y ∷ t) = cond (eqb x y) (equal s t) false
+
+-- `quiet` and `status`
+abbrev pub quietText : List ℕ
+quietText = 113 ∷ 117 ∷ 105 ∷ 101 ∷ 116 ∷ []
+
+abbrev pub statusText : List ℕ
+statusText = 115 ∷ 116 ∷ 97 ∷ 116 ∷ 117 ∷ 115 ∷ []
+
+abbrev pub wordOf : List ℕ → Word
+wordOf s = cond (equal s quietText) Quiet (cond (equal s statusText) Status Other)
+
+-- a word that the program has not
+abbrev pub unknownOf : Words → Words
+unknownOf w = record { quiet = w .quiet; status = w .status; known = false }
+
+-- one word more, for a program that has `quiet` or not
+abbrev pub withOf : Words → Word → Bool → Words
+withOf w Quiet has = cond has (record { quiet = true; status = w .status; known = w .known }) (unknownOf w)
+withOf w Status has = record { quiet = w .quiet; status = true; known = w .known }
+withOf w Other has = unknownOf w
+
+-- `0`, `1` and `3`
+abbrev pub byteOf : Outcome → ℕ
+byteOf Clean = 48
+byteOf Found = 49
+byteOf Failed = 51

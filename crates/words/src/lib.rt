@@ -1,0 +1,134 @@
+// The words that a program is started with, and the byte by which it says how its run went. A Rattle program has no exit status: started by hand it says
+// all on standard output and standard error. Started with the word `status` it also says one byte on descriptor 3, as its last act, and who started
+// it makes a status of that.
+ghost use mathlib.Core.Path.{_≡_};
+ghost use Rattle.words.specs.Words.{equal, wordOf, unknownOf, withOf, byteOf};
+
+// What one word asks for: `quiet`, lines for what is refused only; `status`, the byte at the end; anything else is no word.
+pub enum Word {
+    Quiet,
+    Status,
+    Other,
+}
+
+// What all words ask for, and whether each is one that the program has.
+pub struct Words {
+    pub quiet: bool,
+    pub status: bool,
+    pub known: bool,
+}
+
+// How a run went: all was accepted; something was refused, or bytes are left over; a read or a write failed, or the words are none.
+pub enum Outcome {
+    Clean,
+    Found,
+    Failed,
+}
+
+// Whether both have the same bytes.
+fn is(s: &[u8], t: &[u8]) -> bool
+    ensures { λ r. ⌜ r ≡ equal (now (s .entry)) (now (t .entry)) ⌝ }
+{
+    if s.len() != t.len() {
+        return false;
+    }
+    let mut i = 0;
+    while i < s.len() {
+        if s[i] != t[i] {
+            return false;
+        }
+        i += 1;
+    }
+    true
+}
+
+// Which word these bytes are.
+pub fn word_of(s: &[u8]) -> Word
+    ensures { λ r. ⌜ r ≡ wordOf (now (s .entry)) ⌝ }
+{
+    if is(s, b"quiet") {
+        return Word::Quiet;
+    }
+    if is(s, b"status") {
+        return Word::Status;
+    }
+    Word::Other
+}
+
+// A word that the program has not.
+fn unknown(w: Words) -> Words
+    ensures { λ r. ⌜ r ≡ unknownOf w ⌝ }
+{
+    Words {
+        quiet: w.quiet,
+        status: w.status,
+        known: false,
+    }
+}
+
+// One word more. `quiet` is known to a program that has it.
+pub fn with(w: Words, word: Word, has: bool) -> Words
+    ensures { λ r. ⌜ r ≡ withOf w word has ⌝ }
+{
+    match word {
+        Word::Quiet => {
+            if has {
+                Words {
+                    quiet: true,
+                    status: w.status,
+                    known: w.known,
+                }
+            } else {
+                unknown(w)
+            }
+        }
+        Word::Status => Words {
+            quiet: w.quiet,
+            status: true,
+            known: w.known,
+        },
+        Word::Other => unknown(w),
+    }
+}
+
+// The byte of an outcome: `0`, `1` or `3`.
+pub fn byte_of(o: Outcome) -> u8
+    ensures { λ r. ⌜ r ≡ byteOf o ⌝ }
+{
+    match o {
+        Outcome::Clean => b'0',
+        Outcome::Found => b'1',
+        Outcome::Failed => b'3',
+    }
+}
+
+// The word at a place among the program's arguments. One that is longer than any word is none.
+fn word_at(i: usize) -> Word {
+    let mut buf = [0u8; 16];
+    let n = os::arg(i, &mut buf);
+    word_of(&buf[..n])
+}
+
+// The words that this program was started with.
+pub fn asked(has: bool) -> Words {
+    let mut w = Words {
+        quiet: false,
+        status: false,
+        known: true,
+    };
+    let n = os::arg_count();
+    let mut i = 1;
+    while i < n {
+        let then = with(w, word_at(i), has);
+        w = then;
+        i += 1;
+    }
+    w
+}
+
+// The last act of a program that was asked for it: the outcome's byte on descriptor 3.
+pub fn say(w: Words, o: Outcome) {
+    if w.status {
+        io::write_all(3, &[byte_of(o)]);
+    }
+}
