@@ -7,40 +7,40 @@ use mathlib.Core.List.{List, [], _∷_}
 use lib.Dec.{T, eqb}
 use Rattle.format.specs.Ascii.{'Y', 'P'}
 use Rattle.format.proofs.Tests.{both, is-true}
-use Rattle.codes.specs.declared.EventCode.{EventCode}
-use Rattle.codes.specs.declared.EventCode.the-variants as EventCode·
-use Rattle.codes.specs.declared.MarketCategory.{MarketCategory}
-use Rattle.codes.specs.declared.MarketCategory.the-variants as MarketCategory·
-use Rattle.codes.specs.declared.FinancialStatus.{FinancialStatus}
-use Rattle.codes.specs.declared.FinancialStatus.the-variants as FinancialStatus·
-use Rattle.codes.specs.declared.IssueClassification.{IssueClassification}
-use Rattle.codes.specs.declared.IssueClassification.the-variants as IssueClassification·
-use Rattle.codes.specs.declared.LuldRefPriceTier.{LuldRefPriceTier}
-use Rattle.codes.specs.declared.LuldRefPriceTier.the-variants as LuldRefPriceTier·
-use Rattle.codes.specs.declared.MarketMakerMode.{MarketMakerMode}
-use Rattle.codes.specs.declared.MarketMakerMode.the-variants as MarketMakerMode·
-use Rattle.codes.specs.declared.MarketParticipantState.{MarketParticipantState}
-use Rattle.codes.specs.declared.MarketParticipantState.the-variants as MarketParticipantState·
-use Rattle.codes.specs.declared.RegShoAction.{RegShoAction}
-use Rattle.codes.specs.declared.RegShoAction.the-variants as RegShoAction·
-use Rattle.codes.specs.declared.TradingState.{TradingState}
-use Rattle.codes.specs.declared.TradingState.the-variants as TradingState·
-use Rattle.codes.specs.declared.Side.{Side}
-use Rattle.codes.specs.declared.Side.the-variants as Side·
-use Rattle.codes.specs.declared.ImbalanceDirection.{ImbalanceDirection}
-use Rattle.codes.specs.declared.ImbalanceDirection.the-variants as ImbalanceDirection·
-use Rattle.codes.specs.declared.CrossType.{CrossType}
-use Rattle.codes.specs.declared.CrossType.the-variants as CrossType·
-use Rattle.codes.specs.declared.IpoReleaseQualifier.{IpoReleaseQualifier}
-use Rattle.codes.specs.declared.IpoReleaseQualifier.the-variants as IpoReleaseQualifier·
-use Rattle.codes.specs.declared.LevelBreached.{LevelBreached}
-use Rattle.codes.specs.declared.LevelBreached.the-variants as LevelBreached·
-use Rattle.codes.specs.declared.InterestFlag.{InterestFlag}
-use Rattle.codes.specs.declared.InterestFlag.the-variants as InterestFlag·
-use Rattle.codes.specs.declared.Flag.{Flag}
-use Rattle.codes.specs.declared.Flag.the-variants as Flag·
-use Rattle.codes.specs.declared.IssueSubType.{IssueSubType}
-use Rattle.codes.specs.declared.IssueSubType.the-variants as IssueSubType·
+use Rattle.codes.specs.declared.market.EventCode.{EventCode}
+use Rattle.codes.specs.declared.market.EventCode.the-variants as EventCode·
+use Rattle.codes.specs.declared.stock.MarketCategory.{MarketCategory}
+use Rattle.codes.specs.declared.stock.MarketCategory.the-variants as MarketCategory·
+use Rattle.codes.specs.declared.stock.FinancialStatus.{FinancialStatus}
+use Rattle.codes.specs.declared.stock.FinancialStatus.the-variants as FinancialStatus·
+use Rattle.codes.specs.declared.stock.IssueClassification.{IssueClassification}
+use Rattle.codes.specs.declared.stock.IssueClassification.the-variants as IssueClassification·
+use Rattle.codes.specs.declared.stock.LuldRefPriceTier.{LuldRefPriceTier}
+use Rattle.codes.specs.declared.stock.LuldRefPriceTier.the-variants as LuldRefPriceTier·
+use Rattle.codes.specs.declared.market.MarketMakerMode.{MarketMakerMode}
+use Rattle.codes.specs.declared.market.MarketMakerMode.the-variants as MarketMakerMode·
+use Rattle.codes.specs.declared.market.MarketParticipantState.{MarketParticipantState}
+use Rattle.codes.specs.declared.market.MarketParticipantState.the-variants as MarketParticipantState·
+use Rattle.codes.specs.declared.market.RegShoAction.{RegShoAction}
+use Rattle.codes.specs.declared.market.RegShoAction.the-variants as RegShoAction·
+use Rattle.codes.specs.declared.market.TradingState.{TradingState}
+use Rattle.codes.specs.declared.market.TradingState.the-variants as TradingState·
+use Rattle.codes.specs.declared.trade.Side.{Side}
+use Rattle.codes.specs.declared.trade.Side.the-variants as Side·
+use Rattle.codes.specs.declared.trade.ImbalanceDirection.{ImbalanceDirection}
+use Rattle.codes.specs.declared.trade.ImbalanceDirection.the-variants as ImbalanceDirection·
+use Rattle.codes.specs.declared.trade.CrossType.{CrossType}
+use Rattle.codes.specs.declared.trade.CrossType.the-variants as CrossType·
+use Rattle.codes.specs.declared.market.IpoReleaseQualifier.{IpoReleaseQualifier}
+use Rattle.codes.specs.declared.market.IpoReleaseQualifier.the-variants as IpoReleaseQualifier·
+use Rattle.codes.specs.declared.market.LevelBreached.{LevelBreached}
+use Rattle.codes.specs.declared.market.LevelBreached.the-variants as LevelBreached·
+use Rattle.codes.specs.declared.trade.InterestFlag.{InterestFlag}
+use Rattle.codes.specs.declared.trade.InterestFlag.the-variants as InterestFlag·
+use Rattle.codes.specs.declared.stock.Flag.{Flag}
+use Rattle.codes.specs.declared.stock.Flag.the-variants as Flag·
+use Rattle.codes.specs.declared.subtype.IssueSubType.{IssueSubType}
+use Rattle.codes.specs.declared.subtype.IssueSubType.the-variants as IssueSubType·
 use Rattle.codes.specs.Names.{nameOf, subtypeByte, subtypeFrom, eventByte, eventFrom, categoryByte, categoryFrom, statusByte, statusFrom, classByte, classFrom, tierByte, tierFrom, makerModeByte, makerModeFrom, participantStateByte, participantStateFrom, actionByte, actionFrom, tradingStateByte, tradingStateFrom, sideByte, sideFrom, directionByte, directionFrom, crossByte, crossFrom, qualifierByte, qualifierFrom, levelByte, levelFrom, interestByte, interestFrom, flagByte, flagFrom, yesNoByte, authenticityByte}
 
 -- the bytes of these names pass a test
@@ -68,7 +68,7 @@ all-pass test byte xs last back t x =
     subst (λ y. test (byte y) ≡ true) (back x) (named-passes test byte xs last (byte x) (h .0) (h .1))
 
 pub event-back : (x : EventCode) → eventFrom (eventByte x) ≡ x
-unfolding eventFrom eventByte
+unfolding eventFrom
 event-back EventCode·.StartOfMessages = refl
 event-back EventCode·.StartOfSystemHours = refl
 event-back EventCode·.StartOfMarketHours = refl
@@ -77,7 +77,7 @@ event-back EventCode·.EndOfSystemHours = refl
 event-back EventCode·.EndOfMessages = refl
 
 pub category-back : (x : MarketCategory) → categoryFrom (categoryByte x) ≡ x
-unfolding categoryFrom categoryByte
+unfolding categoryFrom
 category-back MarketCategory·.NasdaqGlobalSelect = refl
 category-back MarketCategory·.NasdaqGlobalMarket = refl
 category-back MarketCategory·.NasdaqCapitalMarket = refl
@@ -89,7 +89,7 @@ category-back MarketCategory·.InvestorsExchange = refl
 category-back MarketCategory·.Unavailable = refl
 
 pub status-back : (x : FinancialStatus) → statusFrom (statusByte x) ≡ x
-unfolding statusFrom statusByte
+unfolding statusFrom
 status-back FinancialStatus·.Normal = refl
 status-back FinancialStatus·.Deficient = refl
 status-back FinancialStatus·.Delinquent = refl
@@ -103,7 +103,7 @@ status-back FinancialStatus·.EtpSuspended = refl
 status-back FinancialStatus·.Unavailable = refl
 
 pub class-back : (x : IssueClassification) → classFrom (classByte x) ≡ x
-unfolding classFrom classByte
+unfolding classFrom
 class-back IssueClassification·.AmericanDepositaryShare = refl
 class-back IssueClassification·.Bond = refl
 class-back IssueClassification·.CommonStock = refl
@@ -122,13 +122,13 @@ class-back IssueClassification·.UnitsPerBenifInt = refl
 class-back IssueClassification·.Warrant = refl
 
 pub tier-back : (x : LuldRefPriceTier) → tierFrom (tierByte x) ≡ x
-unfolding tierFrom tierByte
+unfolding tierFrom
 tier-back LuldRefPriceTier·.Tier1 = refl
 tier-back LuldRefPriceTier·.Tier2 = refl
 tier-back LuldRefPriceTier·.Na = refl
 
 pub makerMode-back : (x : MarketMakerMode) → makerModeFrom (makerModeByte x) ≡ x
-unfolding makerModeFrom makerModeByte
+unfolding makerModeFrom
 makerMode-back MarketMakerMode·.Normal = refl
 makerMode-back MarketMakerMode·.Passive = refl
 makerMode-back MarketMakerMode·.Syndicate = refl
@@ -136,7 +136,7 @@ makerMode-back MarketMakerMode·.Presyndicate = refl
 makerMode-back MarketMakerMode·.Penalty = refl
 
 pub participantState-back : (x : MarketParticipantState) → participantStateFrom (participantStateByte x) ≡ x
-unfolding participantStateFrom participantStateByte
+unfolding participantStateFrom
 participantState-back MarketParticipantState·.Active = refl
 participantState-back MarketParticipantState·.Excused = refl
 participantState-back MarketParticipantState·.Withdrawn = refl
@@ -144,32 +144,32 @@ participantState-back MarketParticipantState·.Suspended = refl
 participantState-back MarketParticipantState·.Deleted = refl
 
 pub action-back : (x : RegShoAction) → actionFrom (actionByte x) ≡ x
-unfolding actionFrom actionByte
+unfolding actionFrom
 action-back RegShoAction·.None = refl
 action-back RegShoAction·.Intraday = refl
 action-back RegShoAction·.Extant = refl
 
 pub tradingState-back : (x : TradingState) → tradingStateFrom (tradingStateByte x) ≡ x
-unfolding tradingStateFrom tradingStateByte
+unfolding tradingStateFrom
 tradingState-back TradingState·.Halted = refl
 tradingState-back TradingState·.Paused = refl
 tradingState-back TradingState·.QuotationOnly = refl
 tradingState-back TradingState·.Trading = refl
 
 pub side-back : (x : Side) → sideFrom (sideByte x) ≡ x
-unfolding sideFrom sideByte
+unfolding sideFrom
 side-back Side·.Buy = refl
 side-back Side·.Sell = refl
 
 pub direction-back : (x : ImbalanceDirection) → directionFrom (directionByte x) ≡ x
-unfolding directionFrom directionByte
+unfolding directionFrom
 direction-back ImbalanceDirection·.Buy = refl
 direction-back ImbalanceDirection·.Sell = refl
 direction-back ImbalanceDirection·.NoImbalance = refl
 direction-back ImbalanceDirection·.InsufficientOrders = refl
 
 pub cross-back : (x : CrossType) → crossFrom (crossByte x) ≡ x
-unfolding crossFrom crossByte
+unfolding crossFrom
 cross-back CrossType·.Opening = refl
 cross-back CrossType·.Closing = refl
 cross-back CrossType·.IpoOrHalted = refl
@@ -177,36 +177,34 @@ cross-back CrossType·.Intraday = refl
 cross-back CrossType·.ExtendedTradingClose = refl
 
 pub qualifier-back : (x : IpoReleaseQualifier) → qualifierFrom (qualifierByte x) ≡ x
-unfolding qualifierFrom qualifierByte
+unfolding qualifierFrom
 qualifier-back IpoReleaseQualifier·.Anticipated = refl
 qualifier-back IpoReleaseQualifier·.Cancelled = refl
 
 pub level-back : (x : LevelBreached) → levelFrom (levelByte x) ≡ x
-unfolding levelFrom levelByte
+unfolding levelFrom
 level-back LevelBreached·.L1 = refl
 level-back LevelBreached·.L2 = refl
 level-back LevelBreached·.L3 = refl
 
 pub interest-back : (x : InterestFlag) → interestFrom (interestByte x) ≡ x
-unfolding interestFrom interestByte
+unfolding interestFrom
 interest-back InterestFlag·.RPIAvailableBuySide = refl
 interest-back InterestFlag·.RPIAvailableSellSide = refl
 interest-back InterestFlag·.RPIAvailableBothSides = refl
 interest-back InterestFlag·.RPINoneAvailable = refl
 
 pub flag-back : (x : Flag) → flagFrom (flagByte x) ≡ x
-unfolding flagFrom flagByte
+unfolding flagFrom
 flag-back Flag·.Yes = refl
 flag-back Flag·.No = refl
 flag-back Flag·.Absent = refl
 
 pub yesNo-back : (x : Bool) → eqb (yesNoByte x) 'Y' ≡ x
-unfolding yesNoByte
 yesNo-back true = refl
 yesNo-back false = refl
 
 pub authenticity-back : (x : Bool) → eqb (authenticityByte x) 'P' ≡ x
-unfolding authenticityByte
 authenticity-back true = refl
 authenticity-back false = refl
 

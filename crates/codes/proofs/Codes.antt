@@ -15,22 +15,22 @@ use Rattle.format.specs.Layout.{Kind, num, code, etp, subtype, be, part, member
 use Rattle.format.specs.Meaning.{faultM}
 use Rattle.format.specs.declared.Fault.{Fault}
 use Rattle.format.specs.declared.Fault.the-variants.{Short, Refused}
-use Rattle.codes.specs.declared.EventCode.{EventCode}
-use Rattle.codes.specs.declared.MarketCategory.{MarketCategory}
-use Rattle.codes.specs.declared.FinancialStatus.{FinancialStatus}
-use Rattle.codes.specs.declared.IssueClassification.{IssueClassification}
-use Rattle.codes.specs.declared.LuldRefPriceTier.{LuldRefPriceTier}
-use Rattle.codes.specs.declared.MarketMakerMode.{MarketMakerMode}
-use Rattle.codes.specs.declared.MarketParticipantState.{MarketParticipantState}
-use Rattle.codes.specs.declared.RegShoAction.{RegShoAction}
-use Rattle.codes.specs.declared.TradingState.{TradingState}
-use Rattle.codes.specs.declared.Side.{Side}
-use Rattle.codes.specs.declared.ImbalanceDirection.{ImbalanceDirection}
-use Rattle.codes.specs.declared.CrossType.{CrossType}
-use Rattle.codes.specs.declared.IpoReleaseQualifier.{IpoReleaseQualifier}
-use Rattle.codes.specs.declared.LevelBreached.{LevelBreached}
-use Rattle.codes.specs.declared.InterestFlag.{InterestFlag}
-use Rattle.codes.specs.declared.Flag.{Flag}
+use Rattle.codes.specs.declared.market.EventCode.{EventCode}
+use Rattle.codes.specs.declared.stock.MarketCategory.{MarketCategory}
+use Rattle.codes.specs.declared.stock.FinancialStatus.{FinancialStatus}
+use Rattle.codes.specs.declared.stock.IssueClassification.{IssueClassification}
+use Rattle.codes.specs.declared.stock.LuldRefPriceTier.{LuldRefPriceTier}
+use Rattle.codes.specs.declared.market.MarketMakerMode.{MarketMakerMode}
+use Rattle.codes.specs.declared.market.MarketParticipantState.{MarketParticipantState}
+use Rattle.codes.specs.declared.market.RegShoAction.{RegShoAction}
+use Rattle.codes.specs.declared.market.TradingState.{TradingState}
+use Rattle.codes.specs.declared.trade.Side.{Side}
+use Rattle.codes.specs.declared.trade.ImbalanceDirection.{ImbalanceDirection}
+use Rattle.codes.specs.declared.trade.CrossType.{CrossType}
+use Rattle.codes.specs.declared.market.IpoReleaseQualifier.{IpoReleaseQualifier}
+use Rattle.codes.specs.declared.market.LevelBreached.{LevelBreached}
+use Rattle.codes.specs.declared.trade.InterestFlag.{InterestFlag}
+use Rattle.codes.specs.declared.stock.Flag.{Flag}
 use Rattle.codes.specs.Names.{eventByte, eventFrom, categoryByte, categoryFrom, statusByte, statusFrom, classByte, classFrom, tierByte, tierFrom, makerModeByte, makerModeFrom, participantStateByte, participantStateFrom, actionByte, actionFrom, tradingStateByte, tradingStateFrom, sideByte, sideFrom, directionByte, directionFrom, crossByte, crossFrom, qualifierByte, qualifierFrom, levelByte, levelFrom, interestByte, interestFrom, flagByte, flagFrom, yesNoByte, authenticityByte, subtypeOf}
 use Rattle.format.proofs.Tests.{both, is-true}
 use Rattle.codes.proofs.Match.{NoneOf, none-of}
@@ -74,79 +74,79 @@ named : {A : Type 0} (byte : A → ℕ) (from : ℕ → A) (set s : List ℕ) (a
 named byte from set s at t = named-by byte from set (code set) s at t (legal set s at)
 
 pub side-named : (s : List ℕ) (at : ℕ) {b : ℕ} {r : Side} → Named sideByte sideFrom (code side) s at b r
-unfolding side sideByte sideFrom
+unfolding side sideFrom
 side-named s at = named sideByte sideFrom side s at tt
 
 pub tradingState-named : (s : List ℕ) (at : ℕ) {b : ℕ} {r : TradingState} → Named tradingStateByte tradingStateFrom (code tradingState) s at b r
-unfolding tradingState tradingStateByte tradingStateFrom
+unfolding tradingState tradingStateFrom
 tradingState-named s at = named tradingStateByte tradingStateFrom tradingState s at tt
 
 pub direction-named : (s : List ℕ) (at : ℕ) {b : ℕ} {r : ImbalanceDirection} → Named directionByte directionFrom (code direction) s at b r
-unfolding direction directionByte directionFrom
+unfolding direction directionFrom
 direction-named s at = named directionByte directionFrom direction s at tt
 
 pub imbalanceCross-named : (s : List ℕ) (at : ℕ) {b : ℕ} {r : CrossType} → Named crossByte crossFrom (code imbalanceCross) s at b r
-unfolding imbalanceCross crossByte crossFrom
+unfolding imbalanceCross crossFrom
 imbalanceCross-named s at = named crossByte crossFrom imbalanceCross s at tt
 
 pub qualifier-named : (s : List ℕ) (at : ℕ) {b : ℕ} {r : IpoReleaseQualifier} → Named qualifierByte qualifierFrom (code qualifier) s at b r
-unfolding qualifier qualifierByte qualifierFrom
+unfolding qualifier qualifierFrom
 qualifier-named s at = named qualifierByte qualifierFrom qualifier s at tt
 
 pub makerMode-named : (s : List ℕ) (at : ℕ) {b : ℕ} {r : MarketMakerMode} → Named makerModeByte makerModeFrom (code makerMode) s at b r
-unfolding makerMode makerModeByte makerModeFrom
+unfolding makerMode makerModeFrom
 makerMode-named s at = named makerModeByte makerModeFrom makerMode s at tt
 
 pub participantState-named : (s : List ℕ) (at : ℕ) {b : ℕ} {r : MarketParticipantState} → Named participantStateByte participantStateFrom (code participantState) s at b r
-unfolding participantState participantStateByte participantStateFrom
+unfolding participantState participantStateFrom
 participantState-named s at = named participantStateByte participantStateFrom participantState s at tt
 
 pub interest-named : (s : List ℕ) (at : ℕ) {b : ℕ} {r : InterestFlag} → Named interestByte interestFrom (code interest) s at b r
-unfolding interest interestByte interestFrom
+unfolding interest interestFrom
 interest-named s at = named interestByte interestFrom interest s at tt
 
 pub cross-named : (s : List ℕ) (at : ℕ) {b : ℕ} {r : CrossType} → Named crossByte crossFrom (code cross) s at b r
-unfolding cross crossByte crossFrom
+unfolding cross crossFrom
 cross-named s at = named crossByte crossFrom cross s at tt
 
 pub category-named : (s : List ℕ) (at : ℕ) {b : ℕ} {r : MarketCategory} → Named categoryByte categoryFrom (code category) s at b r
-unfolding category categoryByte categoryFrom
+unfolding category categoryFrom
 category-named s at = named categoryByte categoryFrom category s at tt
 
 pub status-named : (s : List ℕ) (at : ℕ) {b : ℕ} {r : FinancialStatus} → Named statusByte statusFrom (code status) s at b r
-unfolding status statusByte statusFrom
+unfolding status statusFrom
 status-named s at = named statusByte statusFrom status s at tt
 
 pub class-named : (s : List ℕ) (at : ℕ) {b : ℕ} {r : IssueClassification} → Named classByte classFrom (code class) s at b r
-unfolding class classByte classFrom
+unfolding class classFrom
 class-named s at = named classByte classFrom class s at tt
 
 pub flag-named : (s : List ℕ) (at : ℕ) {b : ℕ} {r : Flag} → Named flagByte flagFrom (code flag) s at b r
-unfolding flag flagByte flagFrom
+unfolding flag flagFrom
 flag-named s at = named flagByte flagFrom flag s at tt
 
 pub tier-named : (s : List ℕ) (at : ℕ) {b : ℕ} {r : LuldRefPriceTier} → Named tierByte tierFrom (code tier) s at b r
-unfolding tier tierByte tierFrom
+unfolding tier tierFrom
 tier-named s at = named tierByte tierFrom tier s at tt
 
 pub event-named : (s : List ℕ) (at : ℕ) {b : ℕ} {r : EventCode} → Named eventByte eventFrom (code event) s at b r
-unfolding event eventByte eventFrom
+unfolding event eventFrom
 event-named s at = named eventByte eventFrom event s at tt
 
 pub level-named : (s : List ℕ) (at : ℕ) {b : ℕ} {r : LevelBreached} → Named levelByte levelFrom (code level) s at b r
-unfolding level levelByte levelFrom
+unfolding level levelFrom
 level-named s at = named levelByte levelFrom level s at tt
 
 pub action-named : (s : List ℕ) (at : ℕ) {b : ℕ} {r : RegShoAction} → Named actionByte actionFrom (code action) s at b r
-unfolding action actionByte actionFrom
+unfolding action actionFrom
 action-named s at = named actionByte actionFrom action s at tt
 
 pub yesNo-named : (s : List ℕ) (at : ℕ) {b : ℕ} {r : Bool} → Named yesNoByte (λ b. eqb b 'Y') (code yesNo) s at b r
-unfolding yesNo yesNoByte
+unfolding yesNo
 yesNo-named s at = named yesNoByte (λ b. eqb b 'Y') yesNo s at tt
 
 pub authenticity-named : (s : List ℕ) (at : ℕ) {b : ℕ} {r : Bool} → Named authenticityByte (λ b. eqb b 'P') (code authenticity) s at b r
-unfolding authenticity authenticityByte
+unfolding authenticity
 authenticity-named s at = named authenticityByte (λ b. eqb b 'P') authenticity s at tt
 
 -- the ETP flag: M read as yes, it is one of the flags
@@ -167,7 +167,7 @@ etp-legal s at {y} e =
     rw q at (etp-flag n (h .0))
 
 pub etp-named : (s : List ℕ) (at : ℕ) {y : ℕ} {r : Flag} → Named flagByte flagFrom etp s at y r
-unfolding flag flagByte flagFrom
+unfolding flag flagFrom
 etp-named s at = named-by flagByte flagFrom flag etp s at tt (etp-legal s at)
 
 -- the subtype: a number of two bytes, judged

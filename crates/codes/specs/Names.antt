@@ -10,49 +10,49 @@ use Rattle.format.specs.Layout.{Got, got, member, fine, wrong, placed}
 use Rattle.format.specs.Meaning.{faultM}
 use Rattle.format.specs.declared.Fault.{Fault}
 use Rattle.format.specs.declared.Fault.the-variants.{Short}
-use Rattle.codes.specs.declared.EventCode.{EventCode}
-use Rattle.codes.specs.declared.EventCode.the-variants as EventCode·
-use Rattle.codes.specs.declared.MarketCategory.{MarketCategory}
-use Rattle.codes.specs.declared.MarketCategory.the-variants as MarketCategory·
-use Rattle.codes.specs.declared.FinancialStatus.{FinancialStatus}
-use Rattle.codes.specs.declared.FinancialStatus.the-variants as FinancialStatus·
-use Rattle.codes.specs.declared.IssueClassification.{IssueClassification}
-use Rattle.codes.specs.declared.IssueClassification.the-variants as IssueClassification·
-use Rattle.codes.specs.declared.LuldRefPriceTier.{LuldRefPriceTier}
-use Rattle.codes.specs.declared.LuldRefPriceTier.the-variants as LuldRefPriceTier·
-use Rattle.codes.specs.declared.MarketMakerMode.{MarketMakerMode}
-use Rattle.codes.specs.declared.MarketMakerMode.the-variants as MarketMakerMode·
-use Rattle.codes.specs.declared.MarketParticipantState.{MarketParticipantState}
-use Rattle.codes.specs.declared.MarketParticipantState.the-variants as MarketParticipantState·
-use Rattle.codes.specs.declared.RegShoAction.{RegShoAction}
-use Rattle.codes.specs.declared.RegShoAction.the-variants as RegShoAction·
-use Rattle.codes.specs.declared.TradingState.{TradingState}
-use Rattle.codes.specs.declared.TradingState.the-variants as TradingState·
-use Rattle.codes.specs.declared.Side.{Side}
-use Rattle.codes.specs.declared.Side.the-variants as Side·
-use Rattle.codes.specs.declared.ImbalanceDirection.{ImbalanceDirection}
-use Rattle.codes.specs.declared.ImbalanceDirection.the-variants as ImbalanceDirection·
-use Rattle.codes.specs.declared.CrossType.{CrossType}
-use Rattle.codes.specs.declared.CrossType.the-variants as CrossType·
-use Rattle.codes.specs.declared.IpoReleaseQualifier.{IpoReleaseQualifier}
-use Rattle.codes.specs.declared.IpoReleaseQualifier.the-variants as IpoReleaseQualifier·
-use Rattle.codes.specs.declared.LevelBreached.{LevelBreached}
-use Rattle.codes.specs.declared.LevelBreached.the-variants as LevelBreached·
-use Rattle.codes.specs.declared.InterestFlag.{InterestFlag}
-use Rattle.codes.specs.declared.InterestFlag.the-variants as InterestFlag·
-use Rattle.codes.specs.declared.Flag.{Flag}
-use Rattle.codes.specs.declared.Flag.the-variants as Flag·
-use Rattle.codes.specs.declared.IssueSubType.{IssueSubType}
-use Rattle.codes.specs.declared.IssueSubType.the-variants as IssueSubType·
-use Rattle.codes.specs.declared.SubtypeRead.{SubtypeRead}
-use Rattle.codes.specs.declared.SubtypeRead.the-variants.{Got as GotSubtype, No as NoSubtype}
+use Rattle.codes.specs.declared.market.EventCode.{EventCode}
+use Rattle.codes.specs.declared.market.EventCode.the-variants as EventCode·
+use Rattle.codes.specs.declared.stock.MarketCategory.{MarketCategory}
+use Rattle.codes.specs.declared.stock.MarketCategory.the-variants as MarketCategory·
+use Rattle.codes.specs.declared.stock.FinancialStatus.{FinancialStatus}
+use Rattle.codes.specs.declared.stock.FinancialStatus.the-variants as FinancialStatus·
+use Rattle.codes.specs.declared.stock.IssueClassification.{IssueClassification}
+use Rattle.codes.specs.declared.stock.IssueClassification.the-variants as IssueClassification·
+use Rattle.codes.specs.declared.stock.LuldRefPriceTier.{LuldRefPriceTier}
+use Rattle.codes.specs.declared.stock.LuldRefPriceTier.the-variants as LuldRefPriceTier·
+use Rattle.codes.specs.declared.market.MarketMakerMode.{MarketMakerMode}
+use Rattle.codes.specs.declared.market.MarketMakerMode.the-variants as MarketMakerMode·
+use Rattle.codes.specs.declared.market.MarketParticipantState.{MarketParticipantState}
+use Rattle.codes.specs.declared.market.MarketParticipantState.the-variants as MarketParticipantState·
+use Rattle.codes.specs.declared.market.RegShoAction.{RegShoAction}
+use Rattle.codes.specs.declared.market.RegShoAction.the-variants as RegShoAction·
+use Rattle.codes.specs.declared.market.TradingState.{TradingState}
+use Rattle.codes.specs.declared.market.TradingState.the-variants as TradingState·
+use Rattle.codes.specs.declared.trade.Side.{Side}
+use Rattle.codes.specs.declared.trade.Side.the-variants as Side·
+use Rattle.codes.specs.declared.trade.ImbalanceDirection.{ImbalanceDirection}
+use Rattle.codes.specs.declared.trade.ImbalanceDirection.the-variants as ImbalanceDirection·
+use Rattle.codes.specs.declared.trade.CrossType.{CrossType}
+use Rattle.codes.specs.declared.trade.CrossType.the-variants as CrossType·
+use Rattle.codes.specs.declared.market.IpoReleaseQualifier.{IpoReleaseQualifier}
+use Rattle.codes.specs.declared.market.IpoReleaseQualifier.the-variants as IpoReleaseQualifier·
+use Rattle.codes.specs.declared.market.LevelBreached.{LevelBreached}
+use Rattle.codes.specs.declared.market.LevelBreached.the-variants as LevelBreached·
+use Rattle.codes.specs.declared.trade.InterestFlag.{InterestFlag}
+use Rattle.codes.specs.declared.trade.InterestFlag.the-variants as InterestFlag·
+use Rattle.codes.specs.declared.stock.Flag.{Flag}
+use Rattle.codes.specs.declared.stock.Flag.the-variants as Flag·
+use Rattle.codes.specs.declared.subtype.IssueSubType.{IssueSubType}
+use Rattle.codes.specs.declared.subtype.IssueSubType.the-variants as IssueSubType·
+use Rattle.codes.specs.declared.subtype.SubtypeRead.{SubtypeRead}
+use Rattle.codes.specs.declared.subtype.SubtypeRead.the-variants.{Got as GotSubtype, No as NoSubtype}
 
 -- the name of a byte: the first of these that it stands for, else the last name. So each list below has the names of its enum but the last
 abbrev pub nameOf : {A : Type 0} → (A → ℕ) → List A → A → ℕ → A
 nameOf byte [] last b = last
 nameOf byte (x ∷ xs) last b = cond (eqb b (byte x)) x (nameOf byte xs last b)
 
-unfoldable pub eventByte : EventCode → ℕ
+abbrev pub eventByte : EventCode → ℕ
 eventByte EventCode·.StartOfMessages = 'O'
 eventByte EventCode·.StartOfSystemHours = 'S'
 eventByte EventCode·.StartOfMarketHours = 'Q'
@@ -68,7 +68,7 @@ eventNames =
 unfoldable pub eventFrom : ℕ → EventCode
 eventFrom b = nameOf eventByte eventNames EventCode·.EndOfMessages b
 
-unfoldable pub categoryByte : MarketCategory → ℕ
+abbrev pub categoryByte : MarketCategory → ℕ
 categoryByte MarketCategory·.NasdaqGlobalSelect = 'Q'
 categoryByte MarketCategory·.NasdaqGlobalMarket = 'G'
 categoryByte MarketCategory·.NasdaqCapitalMarket = 'S'
@@ -87,7 +87,7 @@ categoryNames =
 unfoldable pub categoryFrom : ℕ → MarketCategory
 categoryFrom b = nameOf categoryByte categoryNames MarketCategory·.Unavailable b
 
-unfoldable pub statusByte : FinancialStatus → ℕ
+abbrev pub statusByte : FinancialStatus → ℕ
 statusByte FinancialStatus·.Normal = 'N'
 statusByte FinancialStatus·.Deficient = 'D'
 statusByte FinancialStatus·.Delinquent = 'E'
@@ -109,7 +109,7 @@ statusNames =
 unfoldable pub statusFrom : ℕ → FinancialStatus
 statusFrom b = nameOf statusByte statusNames FinancialStatus·.Unavailable b
 
-unfoldable pub classByte : IssueClassification → ℕ
+abbrev pub classByte : IssueClassification → ℕ
 classByte IssueClassification·.AmericanDepositaryShare = 'A'
 classByte IssueClassification·.Bond = 'B'
 classByte IssueClassification·.CommonStock = 'C'
@@ -138,7 +138,7 @@ classNames =
 unfoldable pub classFrom : ℕ → IssueClassification
 classFrom b = nameOf classByte classNames IssueClassification·.Warrant b
 
-unfoldable pub tierByte : LuldRefPriceTier → ℕ
+abbrev pub tierByte : LuldRefPriceTier → ℕ
 tierByte LuldRefPriceTier·.Tier1 = '1'
 tierByte LuldRefPriceTier·.Tier2 = '2'
 tierByte LuldRefPriceTier·.Na = '␣'
@@ -149,7 +149,7 @@ tierNames = LuldRefPriceTier·.Tier1 ∷ LuldRefPriceTier·.Tier2 ∷ []
 unfoldable pub tierFrom : ℕ → LuldRefPriceTier
 tierFrom b = nameOf tierByte tierNames LuldRefPriceTier·.Na b
 
-unfoldable pub makerModeByte : MarketMakerMode → ℕ
+abbrev pub makerModeByte : MarketMakerMode → ℕ
 makerModeByte MarketMakerMode·.Normal = 'N'
 makerModeByte MarketMakerMode·.Passive = 'P'
 makerModeByte MarketMakerMode·.Syndicate = 'S'
@@ -162,7 +162,7 @@ makerModeNames = MarketMakerMode·.Normal ∷ MarketMakerMode·.Passive ∷ Mark
 unfoldable pub makerModeFrom : ℕ → MarketMakerMode
 makerModeFrom b = nameOf makerModeByte makerModeNames MarketMakerMode·.Penalty b
 
-unfoldable pub participantStateByte : MarketParticipantState → ℕ
+abbrev pub participantStateByte : MarketParticipantState → ℕ
 participantStateByte MarketParticipantState·.Active = 'A'
 participantStateByte MarketParticipantState·.Excused = 'E'
 participantStateByte MarketParticipantState·.Withdrawn = 'W'
@@ -176,7 +176,7 @@ participantStateNames =
 unfoldable pub participantStateFrom : ℕ → MarketParticipantState
 participantStateFrom b = nameOf participantStateByte participantStateNames MarketParticipantState·.Deleted b
 
-unfoldable pub actionByte : RegShoAction → ℕ
+abbrev pub actionByte : RegShoAction → ℕ
 actionByte RegShoAction·.None = '0'
 actionByte RegShoAction·.Intraday = '1'
 actionByte RegShoAction·.Extant = '2'
@@ -187,7 +187,7 @@ actionNames = RegShoAction·.None ∷ RegShoAction·.Intraday ∷ []
 unfoldable pub actionFrom : ℕ → RegShoAction
 actionFrom b = nameOf actionByte actionNames RegShoAction·.Extant b
 
-unfoldable pub tradingStateByte : TradingState → ℕ
+abbrev pub tradingStateByte : TradingState → ℕ
 tradingStateByte TradingState·.Halted = 'H'
 tradingStateByte TradingState·.Paused = 'P'
 tradingStateByte TradingState·.QuotationOnly = 'Q'
@@ -199,7 +199,7 @@ tradingStateNames = TradingState·.Halted ∷ TradingState·.Paused ∷ TradingS
 unfoldable pub tradingStateFrom : ℕ → TradingState
 tradingStateFrom b = nameOf tradingStateByte tradingStateNames TradingState·.Trading b
 
-unfoldable pub sideByte : Side → ℕ
+abbrev pub sideByte : Side → ℕ
 sideByte Side·.Buy = 'B'
 sideByte Side·.Sell = 'S'
 
@@ -209,7 +209,7 @@ sideNames = Side·.Buy ∷ []
 unfoldable pub sideFrom : ℕ → Side
 sideFrom b = nameOf sideByte sideNames Side·.Sell b
 
-unfoldable pub directionByte : ImbalanceDirection → ℕ
+abbrev pub directionByte : ImbalanceDirection → ℕ
 directionByte ImbalanceDirection·.Buy = 'B'
 directionByte ImbalanceDirection·.Sell = 'S'
 directionByte ImbalanceDirection·.NoImbalance = 'N'
@@ -221,7 +221,7 @@ directionNames = ImbalanceDirection·.Buy ∷ ImbalanceDirection·.Sell ∷ Imba
 unfoldable pub directionFrom : ℕ → ImbalanceDirection
 directionFrom b = nameOf directionByte directionNames ImbalanceDirection·.InsufficientOrders b
 
-unfoldable pub crossByte : CrossType → ℕ
+abbrev pub crossByte : CrossType → ℕ
 crossByte CrossType·.Opening = 'O'
 crossByte CrossType·.Closing = 'C'
 crossByte CrossType·.IpoOrHalted = 'H'
@@ -234,7 +234,7 @@ crossNames = CrossType·.Opening ∷ CrossType·.Closing ∷ CrossType·.IpoOrHa
 unfoldable pub crossFrom : ℕ → CrossType
 crossFrom b = nameOf crossByte crossNames CrossType·.ExtendedTradingClose b
 
-unfoldable pub qualifierByte : IpoReleaseQualifier → ℕ
+abbrev pub qualifierByte : IpoReleaseQualifier → ℕ
 qualifierByte IpoReleaseQualifier·.Anticipated = 'A'
 qualifierByte IpoReleaseQualifier·.Cancelled = 'C'
 
@@ -244,7 +244,7 @@ qualifierNames = IpoReleaseQualifier·.Anticipated ∷ []
 unfoldable pub qualifierFrom : ℕ → IpoReleaseQualifier
 qualifierFrom b = nameOf qualifierByte qualifierNames IpoReleaseQualifier·.Cancelled b
 
-unfoldable pub levelByte : LevelBreached → ℕ
+abbrev pub levelByte : LevelBreached → ℕ
 levelByte LevelBreached·.L1 = '1'
 levelByte LevelBreached·.L2 = '2'
 levelByte LevelBreached·.L3 = '3'
@@ -255,7 +255,7 @@ levelNames = LevelBreached·.L1 ∷ LevelBreached·.L2 ∷ []
 unfoldable pub levelFrom : ℕ → LevelBreached
 levelFrom b = nameOf levelByte levelNames LevelBreached·.L3 b
 
-unfoldable pub interestByte : InterestFlag → ℕ
+abbrev pub interestByte : InterestFlag → ℕ
 interestByte InterestFlag·.RPIAvailableBuySide = 'B'
 interestByte InterestFlag·.RPIAvailableSellSide = 'S'
 interestByte InterestFlag·.RPIAvailableBothSides = 'A'
@@ -267,7 +267,7 @@ interestNames = InterestFlag·.RPIAvailableBuySide ∷ InterestFlag·.RPIAvailab
 unfoldable pub interestFrom : ℕ → InterestFlag
 interestFrom b = nameOf interestByte interestNames InterestFlag·.RPINoneAvailable b
 
-unfoldable pub flagByte : Flag → ℕ
+abbrev pub flagByte : Flag → ℕ
 flagByte Flag·.Yes = 'Y'
 flagByte Flag·.No = 'N'
 flagByte Flag·.Absent = '␣'
@@ -278,12 +278,12 @@ flagNames = Flag·.Yes ∷ Flag·.No ∷ []
 unfoldable pub flagFrom : ℕ → Flag
 flagFrom b = nameOf flagByte flagNames Flag·.Absent b
 
-unfoldable pub yesNoByte : Bool → ℕ
+abbrev pub yesNoByte : Bool → ℕ
 yesNoByte true = 'Y'
 yesNoByte false = 'N'
 
 -- production, or test
-unfoldable pub authenticityByte : Bool → ℕ
+abbrev pub authenticityByte : Bool → ℕ
 authenticityByte true = 'P'
 authenticityByte false = 'T'
 

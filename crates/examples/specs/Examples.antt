@@ -6,15 +6,15 @@ use mathlib.Core.Path.{_≡_}
 use mathlib.Core.Bool.{true, false}
 use mathlib.Core.List.{List, [], _∷_, _++_}
 use mathlib.Core.Logic.{_⊎_}
-use Rattle.codes.specs.declared.CrossType.the-variants.{Intraday}
-use Rattle.codes.specs.declared.EventCode.the-variants.{StartOfMessages}
-use Rattle.codes.specs.declared.FinancialStatus.the-variants.{Normal}
-use Rattle.codes.specs.declared.Flag.the-variants.{Yes, No, Absent}
-use Rattle.codes.specs.declared.IssueClassification.the-variants.{OtherSecurities}
-use Rattle.codes.specs.declared.IssueSubType.the-variants.{ETFPortfolioDepositaryReceipt}
-use Rattle.codes.specs.declared.LuldRefPriceTier.the-variants.{Tier1}
-use Rattle.codes.specs.declared.MarketCategory.the-variants.{NasdaqGlobalMarket}
-use Rattle.codes.specs.declared.Side.the-variants.{Buy}
+use Rattle.codes.specs.declared.trade.CrossType.the-variants.{Intraday}
+use Rattle.codes.specs.declared.market.EventCode.the-variants.{StartOfMessages}
+use Rattle.codes.specs.declared.stock.FinancialStatus.the-variants.{Normal}
+use Rattle.codes.specs.declared.stock.Flag.the-variants.{Yes, No, Absent}
+use Rattle.codes.specs.declared.stock.IssueClassification.the-variants.{OtherSecurities}
+use Rattle.codes.specs.declared.subtype.IssueSubType.the-variants.{ETFPortfolioDepositaryReceipt}
+use Rattle.codes.specs.declared.stock.LuldRefPriceTier.the-variants.{Tier1}
+use Rattle.codes.specs.declared.stock.MarketCategory.the-variants.{NasdaqGlobalMarket}
+use Rattle.codes.specs.declared.trade.Side.the-variants.{Buy}
 use Rattle.records.specs.declared.Mpid.the-variants as Mpid·
 use Rattle.records.specs.declared.AddOrder.{AddOrder}
 use Rattle.records.specs.declared.CrossTrade.{CrossTrade}

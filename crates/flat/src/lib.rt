@@ -86,7 +86,7 @@ fn attributed(x: AddOrder, who: Mpid) -> [u64; 19]
     ensures { λ r. ⌜ r ≡ bodyNumbers (orderValues x who) ⌝ }
 {
     let which = x.side;
-    let side = letters::side_code(which) as u64;
+    let side = codes::side_code(which) as u64;
     let shares = x.shares as u64;
     let price = x.price as u64;
     match who {
@@ -117,7 +117,7 @@ fn cross_trade(x: CrossTrade) -> [u64; 19]
     ensures { λ r. ⌜ r ≡ bodyNumbers (values (Body·.CrossTrade x)) ⌝ }
 {
     let which = x.cross_type;
-    let cross = letters::cross_code(which) as u64;
+    let cross = codes::cross_code(which) as u64;
     let price = x.cross_price as u64;
     numbers(
         b'Q',
@@ -138,8 +138,8 @@ fn imbalance(x: ImbalanceIndicator) -> [u64; 19]
 {
     let way = x.imbalance_direction;
     let which = x.cross_type;
-    let direction = letters::direction_code(way) as u64;
-    let cross = letters::cross_code(which) as u64;
+    let direction = codes::direction_code(way) as u64;
+    let cross = codes::cross_code(which) as u64;
     numbers(
         b'I',
         x.paired_shares,
@@ -158,7 +158,7 @@ fn ipo(x: IpoQuotingPeriod) -> [u64; 19]
     ensures { λ r. ⌜ r ≡ bodyNumbers (values (Body·.IpoQuotingPeriod x)) ⌝ }
 {
     let which = x.release_qualifier;
-    let qualifier = letters::qualifier_code(which) as u64;
+    let qualifier = codes::qualifier_code(which) as u64;
     let time = x.release_time as u64;
     numbers(
         b'K',
@@ -178,7 +178,7 @@ fn non_cross_trade(x: NonCrossTrade) -> [u64; 19]
     ensures { λ r. ⌜ r ≡ bodyNumbers (values (Body·.NonCrossTrade x)) ⌝ }
 {
     let which = x.side;
-    let side = letters::side_code(which) as u64;
+    let side = codes::side_code(which) as u64;
     numbers(
         b'P',
         x.reference,
@@ -198,9 +198,9 @@ fn position(x: MarketParticipantPosition) -> [u64; 19]
 {
     let way = x.market_maker_mode;
     let which = x.market_participant_state;
-    let primary = letters::yes_no_code(x.primary_market_maker) as u64;
-    let mode = letters::maker_mode_code(way) as u64;
-    let state = letters::participant_state_code(which) as u64;
+    let primary = codes::yes_no_code(x.primary_market_maker) as u64;
+    let mode = codes::maker_mode_code(way) as u64;
+    let state = codes::participant_state_code(which) as u64;
     numbers(
         b'L',
         x.mpid as u64,
@@ -236,7 +236,7 @@ fn retail(x: RetailPriceImprovementIndicator) -> [u64; 19]
     ensures { λ r. ⌜ r ≡ bodyNumbers (values (Body·.RetailPriceImprovementIndicator x)) ⌝ }
 {
     let which = x.interest_flag;
-    let interest = letters::interest_code(which) as u64;
+    let interest = codes::interest_code(which) as u64;
     numbers(b'N', x.stock, interest, 0, 0, 0, 0, 0, 0, 0)
 }
 
@@ -259,19 +259,19 @@ fn directory(x: StockDirectory) -> [u64; 19]
         0,
         82,
         x.stock,
-        letters::category_code(x_market_category) as u64,
-        letters::status_code(x_financial_status) as u64,
+        codes::category_code(x_market_category) as u64,
+        codes::status_code(x_financial_status) as u64,
         x.round_lot_size as u64,
-        letters::yes_no_code(x.round_lots_only) as u64,
-        letters::class_code(x_issue_classification) as u64,
-        letters::subtype_code(x_issue_subtype) as u64,
-        letters::authenticity_code(x.authenticity) as u64,
-        letters::flag_code(x_short_sale_threshold) as u64,
-        letters::flag_code(x_ipo_flag) as u64,
-        letters::tier_code(x_luld_ref_price_tier) as u64,
-        letters::flag_code(x_etp_flag) as u64,
+        codes::yes_no_code(x.round_lots_only) as u64,
+        codes::class_code(x_issue_classification) as u64,
+        codes::subtype_code(x_issue_subtype) as u64,
+        codes::authenticity_code(x.authenticity) as u64,
+        codes::flag_code(x_short_sale_threshold) as u64,
+        codes::flag_code(x_ipo_flag) as u64,
+        codes::tier_code(x_luld_ref_price_tier) as u64,
+        codes::flag_code(x_etp_flag) as u64,
         x.etp_leverage_factor as u64,
-        letters::yes_no_code(x.inverse_indicator) as u64,
+        codes::yes_no_code(x.inverse_indicator) as u64,
     ]
 }
 
@@ -288,7 +288,7 @@ fn body_numbers(body: Body) -> [u64; 19]
         Body::ReplaceOrder(x) => replace_order(x),
         Body::RetailPriceImprovementIndicator(x) => retail(x),
         Body::StockDirectory(x) => directory(x),
-        Body::Breach(x) => numbers(b'W', letters::level_code(x) as u64, 0, 0, 0, 0, 0, 0, 0, 0),
+        Body::Breach(x) => numbers(b'W', codes::level_code(x) as u64, 0, 0, 0, 0, 0, 0, 0, 0),
         Body::BrokenTrade { match_number } => numbers(b'B', match_number, 0, 0, 0, 0, 0, 0, 0, 0),
         Body::DeleteOrder { reference } => numbers(b'D', reference, 0, 0, 0, 0, 0, 0, 0, 0),
         Body::LULDAuctionCollar {
@@ -345,7 +345,7 @@ fn body_numbers(body: Body) -> [u64; 19]
             reference,
             executed as u64,
             match_number,
-            letters::yes_no_code(printable) as u64,
+            codes::yes_no_code(printable) as u64,
             price as u64,
             0,
             0,
@@ -358,7 +358,7 @@ fn body_numbers(body: Body) -> [u64; 19]
         } => numbers(
             b'Y',
             stock,
-            letters::action_code(what) as u64,
+            codes::action_code(what) as u64,
             0,
             0,
             0,
@@ -369,7 +369,7 @@ fn body_numbers(body: Body) -> [u64; 19]
         ),
         Body::SystemEvent { event: what } => numbers(
             b'S',
-            letters::event_code(what) as u64,
+            codes::event_code(what) as u64,
             0,
             0,
             0,
@@ -386,7 +386,7 @@ fn body_numbers(body: Body) -> [u64; 19]
         } => numbers(
             b'H',
             stock,
-            letters::trading_state_code(way) as u64,
+            codes::trading_state_code(way) as u64,
             reason as u64,
             0,
             0,

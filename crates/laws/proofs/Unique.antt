@@ -19,8 +19,8 @@ use Rattle.format.specs.declared.Num64.the-variants.{Got as Got64, No as No64}
 use Rattle.format.specs.declared.HeaderRead.{HeaderRead}
 use Rattle.format.specs.declared.HeaderRead.the-variants.{Got as GotHeader, Short as ShortHeader}
 use Rattle.codes.specs.Names.{subtypeFrom, subtypeM}
-use Rattle.codes.specs.declared.SubtypeRead.{SubtypeRead}
-use Rattle.codes.specs.declared.SubtypeRead.the-variants.{Got as GotSubtype, No as NoSubtype}
+use Rattle.codes.specs.declared.subtype.SubtypeRead.{SubtypeRead}
+use Rattle.codes.specs.declared.subtype.SubtypeRead.the-variants.{Got as GotSubtype, No as NoSubtype}
 use Rattle.codes.proofs.Back.{subtype-back}
 use Rattle.records.specs.Values.{bodyFrom, bodyM}
 use Rattle.records.specs.declared.BodyRead.{BodyRead}

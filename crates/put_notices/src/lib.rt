@@ -22,7 +22,7 @@ pub fn put_trading_action(buf: &mut [u8], stock: Text8, trading_state: TradingSt
     ensures { λ r. ⌜ PutBody (now (buf .entry)) (values (Body.TradingAction stock «trading_state» reason)) (now (buf .exit)) ⌝ }
 {
     pen::set_u64(buf, 13, stock);
-    pen::set_u8(buf, 21, letters::trading_state_code(trading_state));
+    pen::set_u8(buf, 21, codes::trading_state_code(trading_state));
     pen::set_u8(buf, 22, b' ');
     pen::set_u32(buf, 23, reason);
 }
@@ -34,12 +34,12 @@ pub fn put_imbalance_indicator(buf: &mut [u8], x: ImbalanceIndicator)
     let cross_type = x.cross_type;
     pen::set_u64(buf, 13, x.paired_shares);
     pen::set_u64(buf, 21, x.imbalance_shares);
-    pen::set_u8(buf, 29, letters::direction_code(imbalance_direction));
+    pen::set_u8(buf, 29, codes::direction_code(imbalance_direction));
     pen::set_u64(buf, 30, x.stock);
     pen::set_u32(buf, 38, x.far_price);
     pen::set_u32(buf, 42, x.near_price);
     pen::set_u32(buf, 46, x.current_ref_price);
-    pen::set_u8(buf, 50, letters::cross_code(cross_type));
+    pen::set_u8(buf, 50, codes::cross_code(cross_type));
     pen::set_u8(buf, 51, x.price_variation_indicator);
 }
 
@@ -66,7 +66,7 @@ pub fn put_ipo_quoting_period(buf: &mut [u8], x: IpoQuotingPeriod)
     let release_qualifier = x.release_qualifier;
     pen::set_u64(buf, 13, x.stock);
     pen::set_u32(buf, 21, x.release_time);
-    pen::set_u8(buf, 25, letters::qualifier_code(release_qualifier));
+    pen::set_u8(buf, 25, codes::qualifier_code(release_qualifier));
     pen::set_u32(buf, 26, x.price);
 }
 
@@ -77,12 +77,12 @@ pub fn put_participant_position(buf: &mut [u8], x: MarketParticipantPosition)
     let market_participant_state = x.market_participant_state;
     pen::set_u32(buf, 13, x.mpid);
     pen::set_u64(buf, 17, x.stock);
-    pen::set_u8(buf, 25, letters::yes_no_code(x.primary_market_maker));
-    pen::set_u8(buf, 26, letters::maker_mode_code(market_maker_mode));
+    pen::set_u8(buf, 25, codes::yes_no_code(x.primary_market_maker));
+    pen::set_u8(buf, 26, codes::maker_mode_code(market_maker_mode));
     pen::set_u8(
         buf,
         27,
-        letters::participant_state_code(market_participant_state),
+        codes::participant_state_code(market_participant_state),
     );
 }
 
@@ -91,7 +91,7 @@ pub fn put_retail_price_improvement_indicator(buf: &mut [u8], x: RetailPriceImpr
 {
     let interest_flag = x.interest_flag;
     pen::set_u64(buf, 13, x.stock);
-    pen::set_u8(buf, 21, letters::interest_code(interest_flag));
+    pen::set_u8(buf, 21, codes::interest_code(interest_flag));
 }
 
 pub fn put_stock_directory(buf: &mut [u8], x: StockDirectory)
@@ -106,25 +106,25 @@ pub fn put_stock_directory(buf: &mut [u8], x: StockDirectory)
     let luld_ref_price_tier = x.luld_ref_price_tier;
     let etp_flag = x.etp_flag;
     pen::set_u64(buf, 13, x.stock);
-    pen::set_u8(buf, 21, letters::category_code(market_category));
-    pen::set_u8(buf, 22, letters::status_code(financial_status));
+    pen::set_u8(buf, 21, codes::category_code(market_category));
+    pen::set_u8(buf, 22, codes::status_code(financial_status));
     pen::set_u32(buf, 23, x.round_lot_size);
-    pen::set_u8(buf, 27, letters::yes_no_code(x.round_lots_only));
-    pen::set_u8(buf, 28, letters::class_code(issue_classification));
-    pen::set_u16(buf, 29, letters::subtype_code(issue_subtype));
-    pen::set_u8(buf, 31, letters::authenticity_code(x.authenticity));
-    pen::set_u8(buf, 32, letters::flag_code(short_sale_threshold));
-    pen::set_u8(buf, 33, letters::flag_code(ipo_flag));
-    pen::set_u8(buf, 34, letters::tier_code(luld_ref_price_tier));
-    pen::set_u8(buf, 35, letters::flag_code(etp_flag));
+    pen::set_u8(buf, 27, codes::yes_no_code(x.round_lots_only));
+    pen::set_u8(buf, 28, codes::class_code(issue_classification));
+    pen::set_u16(buf, 29, codes::subtype_code(issue_subtype));
+    pen::set_u8(buf, 31, codes::authenticity_code(x.authenticity));
+    pen::set_u8(buf, 32, codes::flag_code(short_sale_threshold));
+    pen::set_u8(buf, 33, codes::flag_code(ipo_flag));
+    pen::set_u8(buf, 34, codes::tier_code(luld_ref_price_tier));
+    pen::set_u8(buf, 35, codes::flag_code(etp_flag));
     pen::set_u32(buf, 36, x.etp_leverage_factor);
-    pen::set_u8(buf, 40, letters::yes_no_code(x.inverse_indicator));
+    pen::set_u8(buf, 40, codes::yes_no_code(x.inverse_indicator));
 }
 
 pub fn put_system_event(buf: &mut [u8], event: EventCode)
     ensures { λ r. ⌜ PutBody (now (buf .entry)) (values (Body.SystemEvent event)) (now (buf .exit)) ⌝ }
 {
-    pen::set_u8(buf, 13, letters::event_code(event));
+    pen::set_u8(buf, 13, codes::event_code(event));
 }
 
 pub fn put_mwcb_decline_level(buf: &mut [u8], level1: Price8, level2: Price8, level3: Price8)
@@ -138,12 +138,12 @@ pub fn put_mwcb_decline_level(buf: &mut [u8], level1: Price8, level2: Price8, le
 pub fn put_breach(buf: &mut [u8], x: LevelBreached)
     ensures { λ r. ⌜ PutBody (now (buf .entry)) (values (Body.Breach x)) (now (buf .exit)) ⌝ }
 {
-    pen::set_u8(buf, 13, letters::level_code(x));
+    pen::set_u8(buf, 13, codes::level_code(x));
 }
 
 pub fn put_reg_sho_restriction(buf: &mut [u8], stock: Text8, action: RegShoAction)
     ensures { λ r. ⌜ PutBody (now (buf .entry)) (values (Body.RegShoRestriction stock action)) (now (buf .exit)) ⌝ }
 {
     pen::set_u64(buf, 13, stock);
-    pen::set_u8(buf, 21, letters::action_code(action));
+    pen::set_u8(buf, 21, codes::action_code(action));
 }

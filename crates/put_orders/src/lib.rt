@@ -28,7 +28,7 @@ pub fn put_add_order(buf: &mut [u8], x: AddOrder)
     let side = x.side;
     let mpid = x.mpid;
     pen::set_u64(buf, 13, x.reference);
-    pen::set_u8(buf, 21, letters::side_code(side));
+    pen::set_u8(buf, 21, codes::side_code(side));
     pen::set_u32(buf, 22, x.shares);
     pen::set_u64(buf, 26, x.stock);
     pen::set_u32(buf, 34, x.price);
@@ -54,7 +54,7 @@ pub fn put_order_executed_with_price(
     pen::set_u64(buf, 13, reference);
     pen::set_u32(buf, 21, executed);
     pen::set_u64(buf, 25, match_number);
-    pen::set_u8(buf, 33, letters::yes_no_code(printable));
+    pen::set_u8(buf, 33, codes::yes_no_code(printable));
     pen::set_u32(buf, 34, price);
 }
 
@@ -77,7 +77,7 @@ pub fn put_noncross_trade(buf: &mut [u8], x: NonCrossTrade)
 {
     let side = x.side;
     pen::set_u64(buf, 13, x.reference);
-    pen::set_u8(buf, 21, letters::side_code(side));
+    pen::set_u8(buf, 21, codes::side_code(side));
     pen::set_u32(buf, 22, x.shares);
     pen::set_u64(buf, 26, x.stock);
     pen::set_u32(buf, 34, x.price);
@@ -92,7 +92,7 @@ pub fn put_cross_trade(buf: &mut [u8], x: CrossTrade)
     pen::set_u64(buf, 21, x.stock);
     pen::set_u32(buf, 29, x.cross_price);
     pen::set_u64(buf, 33, x.match_number);
-    pen::set_u8(buf, 41, letters::cross_code(cross_type));
+    pen::set_u8(buf, 41, codes::cross_code(cross_type));
 }
 
 pub fn put_replace_order(buf: &mut [u8], x: ReplaceOrder)

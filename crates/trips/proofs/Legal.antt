@@ -15,8 +15,8 @@ use Rattle.format.specs.Layout.{etp, member}
 use Rattle.format.proofs.Tests.{and-split}
 use Rattle.pen.specs.Encode.{layout}
 use Rattle.codes.specs.Names.{nameOf, eventByte, eventNames, eventFrom, categoryByte, categoryNames, categoryFrom, statusByte, statusNames, statusFrom, classByte, classNames, classFrom, tierByte, tierNames, tierFrom, makerModeByte, makerModeNames, makerModeFrom, participantStateByte, participantStateNames, participantStateFrom, actionByte, actionNames, actionFrom, tradingStateByte, tradingStateNames, tradingStateFrom, sideByte, sideNames, sideFrom, directionByte, directionNames, directionFrom, crossByte, crossNames, crossFrom, qualifierByte, qualifierNames, qualifierFrom, levelByte, levelNames, levelFrom, interestByte, interestNames, interestFrom, flagByte, flagNames, flagFrom, subtypeByte, subtypeNames, subtypeFrom, yesNoByte, authenticityByte}
-use Rattle.codes.specs.declared.CrossType.{CrossType}
-use Rattle.codes.specs.declared.Flag.{Flag}
+use Rattle.codes.specs.declared.trade.CrossType.{CrossType}
+use Rattle.codes.specs.declared.stock.Flag.{Flag}
 use Rattle.codes.proofs.Back.{pass, all-pass, event-back, category-back, status-back, class-back, tier-back, makerMode-back, participantState-back, action-back, tradingState-back, side-back, direction-back, cross-back, qualifier-back, level-back, interest-back, flag-back, subtype-back}
 use Rattle.records.specs.declared.Mpid.{Mpid}
 use Rattle.records.specs.declared.Mpid.the-variants.{Absent, Present}
@@ -37,67 +37,67 @@ legal : {A : Type 0} (byte : A → ℕ) (xs : List A) (last : A) (set : List ℕ
 legal byte xs last set = all-pass (λ b. member b set) byte xs last
 
 event-legal : Legal eventByte event
-unfolding eventByte eventFrom event
+unfolding eventFrom event
 event-legal = legal eventByte eventNames _ event event-back tt
 
 category-legal : Legal categoryByte category
-unfolding categoryByte categoryFrom category
+unfolding categoryFrom category
 category-legal = legal categoryByte categoryNames _ category category-back tt
 
 status-legal : Legal statusByte status
-unfolding statusByte statusFrom status
+unfolding statusFrom status
 status-legal = legal statusByte statusNames _ status status-back tt
 
 class-legal : Legal classByte class
-unfolding classByte classFrom class
+unfolding classFrom class
 class-legal = legal classByte classNames _ class class-back tt
 
 tier-legal : Legal tierByte tier
-unfolding tierByte tierFrom tier
+unfolding tierFrom tier
 tier-legal = legal tierByte tierNames _ tier tier-back tt
 
 makerMode-legal : Legal makerModeByte makerMode
-unfolding makerModeByte makerModeFrom makerMode
+unfolding makerModeFrom makerMode
 makerMode-legal = legal makerModeByte makerModeNames _ makerMode makerMode-back tt
 
 participantState-legal : Legal participantStateByte participantState
-unfolding participantStateByte participantStateFrom participantState
+unfolding participantStateFrom participantState
 participantState-legal = legal participantStateByte participantStateNames _ participantState participantState-back tt
 
 action-legal : Legal actionByte action
-unfolding actionByte actionFrom action
+unfolding actionFrom action
 action-legal = legal actionByte actionNames _ action action-back tt
 
 tradingState-legal : Legal tradingStateByte tradingState
-unfolding tradingStateByte tradingStateFrom tradingState
+unfolding tradingStateFrom tradingState
 tradingState-legal = legal tradingStateByte tradingStateNames _ tradingState tradingState-back tt
 
 side-legal : Legal sideByte side
-unfolding sideByte sideFrom side
+unfolding sideFrom side
 side-legal = legal sideByte sideNames _ side side-back tt
 
 direction-legal : Legal directionByte direction
-unfolding directionByte directionFrom direction
+unfolding directionFrom direction
 direction-legal = legal directionByte directionNames _ direction direction-back tt
 
 cross-legal : Legal crossByte cross
-unfolding crossByte crossFrom cross
+unfolding crossFrom cross
 cross-legal = legal crossByte crossNames _ cross cross-back tt
 
 qualifier-legal : Legal qualifierByte qualifier
-unfolding qualifierByte qualifierFrom qualifier
+unfolding qualifierFrom qualifier
 qualifier-legal = legal qualifierByte qualifierNames _ qualifier qualifier-back tt
 
 level-legal : Legal levelByte level
-unfolding levelByte levelFrom level
+unfolding levelFrom level
 level-legal = legal levelByte levelNames _ level level-back tt
 
 interest-legal : Legal interestByte interest
-unfolding interestByte interestFrom interest
+unfolding interestFrom interest
 interest-legal = legal interestByte interestNames _ interest interest-back tt
 
 flag-legal : Legal flagByte flag
-unfolding flagByte flagFrom flag
+unfolding flagFrom flag
 flag-legal = legal flagByte flagNames _ flag flag-back tt
 
 subtype-legal : Legal subtypeByte subtypes
@@ -105,22 +105,22 @@ unfolding subtypeByte subtypeFrom subtypes
 subtype-legal = legal subtypeByte subtypeNames _ subtypes subtype-back tt
 
 yesNo-legal : Legal yesNoByte yesNo
-unfolding yesNoByte yesNo
+unfolding yesNo
 yesNo-legal true = refl
 yesNo-legal false = refl
 
 authenticity-legal : Legal authenticityByte authenticity
-unfolding authenticityByte authenticity
+unfolding authenticity
 authenticity-legal true = refl
 authenticity-legal false = refl
 
 etp-legal : (x : Flag) → codeFine etp (flagByte x) ≡ true
-unfolding flagByte flagFrom etpFlag
+unfolding flagFrom etpFlag
 etp-legal = all-pass (codeFine etp) flagByte flagNames _ flag-back tt
 
 -- in an imbalance record all crosses but Intraday are legal, and Intraday is not
 imbalance-legal : (x : CrossType) → eqb (crossByte x) 'I' ≡ false → member (crossByte x) imbalanceCross ≡ true
-unfolding crossByte crossFrom imbalanceCross
+unfolding crossFrom imbalanceCross
 imbalance-legal x h = rw h at (all-pass (λ b. eqb b 'I' || member b imbalanceCross) crossByte crossNames _ cross-back tt x)
 
 not-intraday : (v : ℕ) → member v imbalanceCross ≡ true → eqb v 'I' ≡ false

@@ -59,7 +59,7 @@ fn both(a: bool, b: bool) -> bool
 fn is_intraday(x: CrossType) -> bool
     ensures { λ r. ⌜ r ≡ eqb (crossByte x) 'I' ⌝ }
 {
-    letters::cross_code(x) == b'I'
+    codes::cross_code(x) == b'I'
 }
 
 // What is looked at before a body is written.
