@@ -1,4 +1,4 @@
-pub mod Pairs
+pub mod Digits
 pub mod Plainly
 pub mod Told
 pub mod Moves

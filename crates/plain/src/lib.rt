@@ -8,7 +8,10 @@ ghost use Rattle.plain.specs.Plain.{Table, endBy, plainOf};
 mod table;
 
 use format::Num64;
+use table::NUMBERS;
+use table::ORDER;
 use table::ROWS;
+use table::SIDE;
 
 // The table, to be lent: indexed where it is used, it would be built anew at each use.
 pub fn rows() -> [u64; 256]
@@ -17,18 +20,20 @@ pub fn rows() -> [u64; 256]
     ROWS
 }
 
+// The row of a byte.
 fn row(rows: &[u64; 256], b: u8) -> u64
     ensures { λ r. ⌜ r ≡ getD (now (rows .entry)) b 0 ⌝ }
 {
     rows[b as usize]
 }
 
-// An order, whose bit is the highest, needs a legal side and a stock with no high bit; a body of numbers needs nothing.
+// Where a message ends by the rows of its tag and of its byte 21: an order needs a legal side and a stock with no high bit, a body of numbers needs
+// nothing. Zero where it is no plain message.
 fn end_by(r: u64, c: u64, stock: u64) -> usize
     ensures { λ n. ⌜ n ≡ endBy r c stock ⌝ }
 {
-    let order = r / 0x8000000000000000;
-    let legal = r / 256 % 2 + order * (c / 512 % 2);
+    let order = r / ORDER;
+    let legal = r / NUMBERS % 2 + order * (c / SIDE % 2);
     if legal == 0 {
         return 0;
     }

@@ -1,5 +1,16 @@
-// The rows: one for each of the 256 byte values. For a tag with a plain body it has where the message ends and what is to be looked at; for a
-// legal side, 512 more.
+// The rows: one for each of the 256 byte values. For a tag with a plain body it has where the message ends and what is to be looked at, and for a
+// legal side its bit. The rule that they follow is `rowOf` of specs/Plain.
+
+// The bit of a tag whose body is numbers alone.
+pub const NUMBERS: u64 = 0x100;
+
+// The bit of a legal side.
+pub const SIDE: u64 = 0x200;
+
+// The bit of a tag that is an order's: its side and its stock are looked at.
+pub const ORDER: u64 = 0x8000000000000000;
+
+// The rows. Zero is no plain message's tag and no side.
 pub const ROWS: [u64; 256] = [
     0,
     0,
@@ -66,13 +77,11 @@ pub const ROWS: [u64; 256] = [
     0,
     0,
     0,
-    9223372036854775846, // A
-    789, // B
+    ORDER | tables::END_A as u64, // A
+    SIDE | NUMBERS | tables::END_B as u64, // B
     0,
-    277, // D
-    289, // E
-    0,
-    0,
+    NUMBERS | tables::END_D as u64, // D
+    NUMBERS | tables::END_E as u64, // E
     0,
     0,
     0,
@@ -81,15 +90,17 @@ pub const ROWS: [u64; 256] = [
     0,
     0,
     0,
-    9223372036854775854, // P
     0,
     0,
-    512, // S
+    ORDER | tables::END_P as u64, // P
     0,
-    293, // U
-    293, // V
     0,
-    281, // X
+    SIDE, // S
+    0,
+    NUMBERS | tables::END_U as u64, // U
+    NUMBERS | tables::END_V as u64, // V
+    0,
+    NUMBERS | tables::END_X as u64, // X
     0,
     0,
     0,

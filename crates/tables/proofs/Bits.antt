@@ -1,13 +1,15 @@
 -- The bits of a mask: bit k of a byte's mask is 1 where the byte is in the k-th set, once for any row of sets.
 -- Assumes nothing.
 use mathlib.Core.Path.{_≡_, refl, sym, ap, _∙_}
-use mathlib.Core.Bool.{Bool, true, false, cond}
+use mathlib.Core.Bool.{Bool, true, false, cond, not}
 use mathlib.Core.List.{List, [], _∷_}
-use Prim.Native.Nat.{ℕ, zero, suc, _+_, _*_, _^_, _/_, _%_}
-use native.Mathlib.Nat.{zero-div, div-one}
+use Prim.Native.Nat.{ℕ, zero, suc, _+_, _*_, _-_, _^_, _/_, _%_}
+use native.Mathlib.Nat.{zero-div, div-one, one-mul, zero-mul}
 use native.Mathlib.Omega.{arith}
 use lib.Dec.{eqb}
-use lib.Pow.{shr-shr}
+use lib.Pow.{pow-pos, shr-shr, high-ones}
+use lib.Bits.{bitAnd, and-high}
+use borrow.Author.Tests.{ne-eqb}
 use Rattle.format.specs.Codes.{sets}
 use Rattle.format.specs.Layout.{member}
 use Rattle.tables.specs.Masks.{nth, bits, maskOf}
@@ -28,10 +30,16 @@ bit-at (l ∷ ls) b (suc k) =
     let e : 1 + k ≡ suc k = omega arith in
     ap (λ n. n % 2) (ap (λ n. bits (l ∷ ls) b / 2 ^ n) (sym e) ∙ sym h ∙ ap (λ n. n / 2 ^ k) (half (member b l) (bits ls b))) ∙ bit-at ls b k
 
-is-one : (t : Bool) → eqb (cond t 1 0) 1 ≡ t
-is-one true = refl
-is-one false = refl
+-- a mask and the bit of a set
+alone : (m k : ℕ) → bitAnd m (2 ^ k) ≡ (m / 2 ^ k % 2) * 2 ^ k
+alone m k =
+    let e : 2 ^ (1 + k) - 2 ^ k ≡ 2 ^ k = high-ones 1 k ∙ one-mul (2 ^ k) in
+    rw e at (and-high m 1 k)
 
-pub legal-bit : (b k : ℕ) {m : ℕ} → m ≡ maskOf b → eqb (m / 2 ^ k % 2) 1 ≡ member b (nth sets k)
+is-set : (t : Bool) (k : ℕ) → not (eqb (cond t 1 0 * 2 ^ k) 0) ≡ t
+is-set true k = ap not (ne-eqb (1 * 2 ^ k) 0 (λ e. omega (arith, pow-pos k, one-mul (2 ^ k))))
+is-set false k = ap (λ n. not (eqb n 0)) (zero-mul (2 ^ k))
+
+pub legal-bit : (b k : ℕ) {m bit : ℕ} → m ≡ maskOf b → bit ≡ 2 ^ k → not (eqb (bitAnd m bit) 0) ≡ member b (nth sets k)
 unfolding maskOf
-legal-bit b k e = rw (e, bit-at sets b k) (is-one (member b (nth sets k)))
+legal-bit b k e f = rw (e, f, alone, bit-at sets b k) (is-set (member b (nth sets k)) k)

@@ -1,8 +1,9 @@
 -- The rule of the code-set masks: bit k of a byte's mask is 1 exactly where the byte is legal in the k-th set.
 -- Assumes nothing.
-use Prim.Native.Nat.{ℕ, zero, suc, _+_, _*_}
+use Prim.Native.Nat.{ℕ, zero, suc, _+_, _*_, _^_}
+use mathlib.Core.Path.{_≡_}
 use mathlib.Core.List.{List, [], _∷_}
-use mathlib.Core.Bool.{cond}
+use mathlib.Core.Bool.{Bool, cond}
 use Rattle.format.specs.Codes.{sets}
 use Rattle.format.specs.Layout.{member}
 
@@ -18,3 +19,7 @@ bits (l ∷ ls) b = bits ls b * 2 + cond (member b l) 1 0
 
 unfoldable pub maskOf : ℕ → ℕ
 maskOf b = bits sets b
+
+-- whether a byte is legal in the set whose bit this is
+abbrev pub Legal : ℕ → ℕ → Bool → Type 0
+Legal b bit r = (k : ℕ) → bit ≡ 2 ^ k → r ≡ member b (nth sets k)

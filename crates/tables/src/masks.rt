@@ -1,5 +1,67 @@
-// The code-set masks: a row for each of the 256 byte values. Bit k of a byte's mask is 1 where the byte is legal in the k-th code set of
-// specs/Codes of the crate `format`.
+// The code-set masks: a row for each of the 256 byte values, with the bit of each code set that the byte is legal in. The sets, and the order in
+// which the bits count them, stand in specs/Codes of the crate `format`.
+
+// The bit of each set, named by the fields that it is for. A, F, P: side.
+pub const SIDE: u32 = 0x00001;
+
+// C: printable; L: primary; R: lots only, inverse.
+pub const YES_NO: u32 = 0x00002;
+
+// H: state.
+pub const TRADING_STATE: u32 = 0x00004;
+
+// I: direction.
+pub const DIRECTION: u32 = 0x00008;
+
+// I: cross.
+pub const IMBALANCE_CROSS: u32 = 0x00010;
+
+// K: qualifier.
+pub const QUALIFIER: u32 = 0x00020;
+
+// L: mode.
+pub const MAKER_MODE: u32 = 0x00040;
+
+// L: state.
+pub const PARTICIPANT_STATE: u32 = 0x00080;
+
+// N: interest.
+pub const INTEREST: u32 = 0x00100;
+
+// Q: cross.
+pub const CROSS: u32 = 0x00200;
+
+// R: category.
+pub const CATEGORY: u32 = 0x00400;
+
+// R: status.
+pub const STATUS: u32 = 0x00800;
+
+// R: class.
+pub const CLASS: u32 = 0x01000;
+
+// R: authenticity.
+pub const AUTHENTICITY: u32 = 0x02000;
+
+// R: short sale, IPO.
+pub const FLAG: u32 = 0x04000;
+
+// R: LULD tier.
+pub const TIER: u32 = 0x08000;
+
+// R: ETP.
+pub const ETP_FLAG: u32 = 0x10000;
+
+// S: event.
+pub const EVENT: u32 = 0x20000;
+
+// W: level.
+pub const LEVEL: u32 = 0x40000;
+
+// Y: action.
+pub const ACTION: u32 = 0x80000;
+
+// The rows. A byte that no row names is no code.
 pub const MASKS: [u32; 256] = [
     0,
     0,
@@ -33,7 +95,7 @@ pub const MASKS: [u32; 256] = [
     0,
     0,
     0,
-    117760, // space
+    CATEGORY | STATUS | FLAG | TIER | ETP_FLAG, // space
     0,
     0,
     0,
@@ -49,10 +111,10 @@ pub const MASKS: [u32; 256] = [
     0,
     0,
     0,
-    524288, // 0
-    819200, // 1
-    819200, // 2
-    262144, // 3
+    ACTION, // 0
+    TIER | LEVEL | ACTION, // 1
+    TIER | LEVEL | ACTION, // 2
+    LEVEL, // 3
     0,
     0,
     0,
@@ -66,32 +128,40 @@ pub const MASKS: [u32; 256] = [
     0,
     0,
     0,
-    6064, // A
-    4361, // B
-    137776, // C
-    2176, // D
-    133248, // E
-    4096, // F
-    3072, // G
-    2580, // H
-    4608, // I
-    2048, // J
-    2048, // K
-    4160, // L
-    196608, // M
-    89418, // N
-    135704, // O
-    13380, // P
-    138244, // Q
-    4160, // R
-    138697, // S
-    12292, // T
-    4096, // U
-    5120, // V
-    4224, // W
+    IMBALANCE_CROSS | QUALIFIER | PARTICIPANT_STATE | INTEREST | CROSS | CATEGORY | CLASS, // A
+    SIDE | DIRECTION | INTEREST | CLASS, // B
+    IMBALANCE_CROSS | QUALIFIER | CROSS | STATUS | CLASS | EVENT, // C
+    PARTICIPANT_STATE | STATUS, // D
+    PARTICIPANT_STATE | STATUS | EVENT, // E
+    CLASS, // F
+    CATEGORY | STATUS, // G
+    TRADING_STATE | IMBALANCE_CROSS | CROSS | STATUS, // H
+    CROSS | CLASS, // I
+    STATUS, // J
+    STATUS, // K
+    MAKER_MODE | CLASS, // L
+    ETP_FLAG | EVENT, // M
+    YES_NO | DIRECTION | MAKER_MODE | INTEREST | CATEGORY | STATUS | CLASS | FLAG | ETP_FLAG, // N
+    DIRECTION | IMBALANCE_CROSS | CROSS | CLASS | EVENT, // O
+    TRADING_STATE | MAKER_MODE | CATEGORY | CLASS | AUTHENTICITY, // P
+    TRADING_STATE | CATEGORY | STATUS | CLASS | EVENT, // Q
+    MAKER_MODE | CLASS, // R
+    SIDE
+        | DIRECTION
+        | MAKER_MODE
+        | PARTICIPANT_STATE
+        | INTEREST
+        | CATEGORY
+        | STATUS
+        | CLASS
+        | EVENT, // S
+    TRADING_STATE | CLASS | AUTHENTICITY, // T
+    CLASS, // U
+    CATEGORY | CLASS, // V
+    PARTICIPANT_STATE | CLASS, // W
     0,
-    81922, // Y
-    1024, // Z
+    YES_NO | FLAG | ETP_FLAG, // Y
+    CATEGORY, // Z
     0,
     0,
     0,

@@ -4,7 +4,7 @@ use mathlib.Core.Path.{refl, ap, _∙_}
 use native.Mathlib.Numerals.{add-one}
 use native.Mathlib.Omega.{arith}
 use lib.ListN.{length, length-set}
-use Rattle.lines.proofs.Pairs.{pairs-long, pairs-at}
+use Rattle.lines.proofs.Digits.{pairs-long, pairs-at}
 use borrow.Author.Needs.{needs}
 use Rattle.lines.proofs.two.Statement.{statement}
 use Rattle.lines.proofs.two.Tie as tie

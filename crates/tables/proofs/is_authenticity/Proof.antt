@@ -1,5 +1,6 @@
 -- `tables::is_authenticity` meets its contract.
 -- Assumes nothing.
+use mathlib.Core.Path.{refl}
 use mathlib.Core.List.{[], _∷_}
 use Rattle.format.specs.Ascii.{'P', 'T'}
 use Rattle.format.specs.Codes.{authenticity}
@@ -16,7 +17,7 @@ unfolding authenticity
 returns c = one-of authenticity ('P' ∷ 'T' ∷ []) _ tt (c .match .keys1)
 
 returns-2 : tie.Need-returns-2
-returns-2 c = search needs
+returns-2 c = c .legal .ensures 13 refl
 
 pub is-authenticity-spec : {M : Type 1} → statement M
 is-authenticity-spec = tie.close (tie.spec legal-requires returns returns-2)

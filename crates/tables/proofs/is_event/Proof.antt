@@ -1,5 +1,6 @@
 -- `tables::is_event` meets its contract.
 -- Assumes nothing.
+use mathlib.Core.Path.{refl}
 use mathlib.Core.List.{[], _∷_}
 use Rattle.format.specs.Ascii.{'C', 'E', 'M', 'O', 'Q', 'S'}
 use Rattle.format.specs.Codes.{event}
@@ -16,7 +17,7 @@ unfolding event
 returns c = one-of event ('C' ∷ 'E' ∷ 'M' ∷ 'O' ∷ 'Q' ∷ 'S' ∷ []) _ tt (c .match .keys1)
 
 returns-2 : tie.Need-returns-2
-returns-2 c = search needs
+returns-2 c = c .legal .ensures 17 refl
 
 pub is-event-spec : {M : Type 1} → statement M
 is-event-spec = tie.close (tie.spec legal-requires returns returns-2)

@@ -1,5 +1,6 @@
 -- `tables::is_qualifier` meets its contract.
 -- Assumes nothing.
+use mathlib.Core.Path.{refl}
 use mathlib.Core.List.{[], _∷_}
 use Rattle.format.specs.Ascii.{'A', 'C'}
 use Rattle.format.specs.Codes.{qualifier}
@@ -16,7 +17,7 @@ unfolding qualifier
 returns c = one-of qualifier ('A' ∷ 'C' ∷ []) _ tt (c .match .keys1)
 
 returns-2 : tie.Need-returns-2
-returns-2 c = search needs
+returns-2 c = c .legal .ensures 5 refl
 
 pub is-qualifier-spec : {M : Type 1} → statement M
 is-qualifier-spec = tie.close (tie.spec legal-requires returns returns-2)

@@ -1,5 +1,6 @@
 -- `tables::is_status` meets its contract.
 -- Assumes nothing.
+use mathlib.Core.Path.{refl}
 use mathlib.Core.List.{[], _∷_}
 use native.Mathlib.Omega.{arith}
 use Rattle.format.specs.Ascii.{'␣', 'C', 'G', 'J', 'N', 'Q', 'S'}
@@ -13,7 +14,7 @@ legal-requires : tie.Need-legal-requires
 legal-requires c κs = search needs
 
 returns : tie.Need-returns
-returns c = search needs
+returns c = c .legal .ensures 11 refl
 
 returns-2 : tie.Need-returns-2
 unfolding status

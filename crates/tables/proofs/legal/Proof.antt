@@ -8,11 +8,8 @@ use Rattle.tables.proofs.legal.Tie as tie
 mask-requires : tie.Need-mask-requires
 mask-requires c κs = search needs
 
-shr-result : tie.Need-shr-result
-shr-result c = search needs
-
 returns : tie.Need-returns
-returns c = legal-bit _ _ (c .mask .ensures)
+returns c k e = legal-bit _ k (c .mask .ensures) e
 
 pub legal-spec : {M : Type 1} → statement M
-legal-spec = tie.close (tie.spec mask-requires shr-result returns)
+legal-spec = tie.close (tie.spec mask-requires returns)
