@@ -219,20 +219,20 @@ fn put_body(buf: &mut [u8], b: Body)
     ensures { λ r. ⌜ PutBody (now (buf .entry)) (values b) (now (buf .exit)) ⌝ }
 {
     match b {
-        Body::AddOrder(x) => put_orders::put_add_order(buf, x),
-        Body::Breach(x) => put_notices::put_breach(buf, x),
-        Body::BrokenTrade { match_number } => put_orders::put_broken_trade(buf, match_number),
-        Body::CrossTrade(x) => put_orders::put_cross_trade(buf, x),
-        Body::DeleteOrder { reference } => put_orders::put_delete_order(buf, reference),
-        Body::Imbalance(x) => put_notices::put_imbalance_indicator(buf, x),
-        Body::IpoQuotingPeriod(x) => put_notices::put_ipo_quoting_period(buf, x),
+        Body::AddOrder(x) => put_bodies::put_add_order(buf, x),
+        Body::Breach(x) => put_bodies::put_breach(buf, x),
+        Body::BrokenTrade { match_number } => put_bodies::put_broken_trade(buf, match_number),
+        Body::CrossTrade(x) => put_bodies::put_cross_trade(buf, x),
+        Body::DeleteOrder { reference } => put_bodies::put_delete_order(buf, reference),
+        Body::Imbalance(x) => put_bodies::put_imbalance_indicator(buf, x),
+        Body::IpoQuotingPeriod(x) => put_bodies::put_ipo_quoting_period(buf, x),
         Body::LULDAuctionCollar {
             stock,
             ref_price,
             upper_price,
             lower_price,
             extension,
-        } => put_notices::put_luld_auction_collar(
+        } => put_bodies::put_luld_auction_collar(
             buf,
             stock,
             ref_price,
@@ -244,24 +244,24 @@ fn put_body(buf: &mut [u8], b: Body)
             level1,
             level2,
             level3,
-        } => put_notices::put_mwcb_decline_level(buf, level1, level2, level3),
-        Body::NonCrossTrade(x) => put_orders::put_noncross_trade(buf, x),
+        } => put_bodies::put_mwcb_decline_level(buf, level1, level2, level3),
+        Body::NonCrossTrade(x) => put_bodies::put_noncross_trade(buf, x),
         Body::OrderCancelled {
             reference,
             cancelled,
-        } => put_orders::put_order_cancelled(buf, reference, cancelled),
+        } => put_bodies::put_order_cancelled(buf, reference, cancelled),
         Body::OrderExecuted {
             reference,
             executed,
             match_number,
-        } => put_orders::put_order_executed(buf, reference, executed, match_number),
+        } => put_bodies::put_order_executed(buf, reference, executed, match_number),
         Body::OrderExecutedWithPrice {
             reference,
             executed,
             match_number,
             printable,
             price,
-        } => put_orders::put_order_executed_with_price(
+        } => put_bodies::put_order_executed_with_price(
             buf,
             reference,
             executed,
@@ -269,22 +269,22 @@ fn put_body(buf: &mut [u8], b: Body)
             printable,
             price,
         ),
-        Body::ParticipantPosition(x) => put_notices::put_participant_position(buf, x),
-        Body::RegShoRestriction { stock, action } => put_notices::put_reg_sho_restriction(
+        Body::ParticipantPosition(x) => put_bodies::put_participant_position(buf, x),
+        Body::RegShoRestriction { stock, action } => put_bodies::put_reg_sho_restriction(
             buf,
             stock,
             action,
         ),
-        Body::ReplaceOrder(x) => put_orders::put_replace_order(buf, x),
+        Body::ReplaceOrder(x) => put_bodies::put_replace_order(buf, x),
         Body::RetailPriceImprovementIndicator(x) =>
-            put_notices::put_retail_price_improvement_indicator(buf, x),
-        Body::StockDirectory(x) => put_notices::put_stock_directory(buf, x),
-        Body::SystemEvent { event } => put_notices::put_system_event(buf, event),
+            put_bodies::put_retail_price_improvement_indicator(buf, x),
+        Body::StockDirectory(x) => put_bodies::put_stock_directory(buf, x),
+        Body::SystemEvent { event } => put_bodies::put_system_event(buf, event),
         Body::TradingAction {
             stock,
             trading_state,
             reason,
-        } => put_notices::put_trading_action(buf, stock, trading_state, reason),
+        } => put_bodies::put_trading_action(buf, stock, trading_state, reason),
     }
 }
 
