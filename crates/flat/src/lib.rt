@@ -25,18 +25,22 @@ use stream::Answer;
 use stream::Step;
 use stream::Stream;
 
-// The kinds: a message's is its body's tag, so at least FIRST. Of the others, nothing more and refused, whose first two numbers are number and place,
-// and wants and ready, that have none.
+// The kinds. A message's is its body's tag: so at least this, A.
 pub const FIRST: u64 = 65;
 
+// Nothing more.
 pub const NOTHING: u64 = 0;
 
+// Refused: the first two numbers are its number and its place.
 pub const REFUSED: u64 = 1;
 
+// Wants bytes: no numbers.
 pub const WANTS: u64 = 2;
 
+// Ready to be read into: no numbers.
 pub const READY: u64 = 3;
 
+// The stream's state after a call, the kind of its answer and the answer's numbers, zeros behind them.
 pub struct Flat {
     pub state: Stream,
     pub kind: u64,
@@ -440,26 +444,29 @@ fn flatten(step: Step) -> Flat
     }
 }
 
-// The stream's calls.
-
+// What the stream answers to next, as numbers.
 pub fn next(s: Stream, b: &[u8]) -> Flat
     ensures { λ r. ⌜ r ≡ stepFlat (nextOf s (now (b .entry))) ⌝ }
 {
     flatten(stream::next_of(s, b))
 }
 
+// The same of make room. The buffer is as the stream leaves it.
 pub fn make_room(s: Stream, buf: &mut [u8]) -> Flat
-    ensures { λ r. ⌜ (r ≡ stepFlat (roomOf s (length (now (buf .entry))))) × (now (buf .exit) ≡ roomBuffer s (now (buf .entry))) ⌝ }
+    ensures { λ r. ⌜ r ≡ stepFlat (roomOf s (length (now (buf .entry)))) ⌝ }
+    ensures { λ r. ⌜ now (buf .exit) ≡ roomBuffer s (now (buf .entry)) ⌝ }
 {
     flatten(stream::make_room_of(s, buf))
 }
 
+// The same of told.
 pub fn told(s: Stream, n: usize) -> Flat
     ensures { λ r. ⌜ r ≡ stepFlat (toldOf s n) ⌝ }
 {
     flatten(stream::told_of(s, n))
 }
 
+// The same of told a failed read.
 pub fn told_failed(s: Stream) -> Flat
     ensures { λ r. ⌜ r ≡ stepFlat (failedOf s) ⌝ }
 {

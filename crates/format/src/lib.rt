@@ -18,21 +18,25 @@ pub enum Fault {
     Refused(u8, usize),
 }
 
+// A byte that was read, or why there is none.
 pub enum Num8 {
     Got(u8),
     No(Fault),
 }
 
+// A number of two bytes that was read, or why there is none.
 pub enum Num16 {
     Got(u16),
     No(Fault),
 }
 
+// A number or a text of four bytes that was read, or why there is none.
 pub enum Num32 {
     Got(u32),
     No(Fault),
 }
 
+// A number or a text of eight bytes that was read, or why there is none.
 pub enum Num64 {
     Got(u64),
     No(Fault),
@@ -43,15 +47,17 @@ pub struct Header {
     pub tag: u8,
     pub stock_locate: u16,
     pub tracking_number: u16,
+    // nanoseconds since midnight, of six bytes
     pub timestamp: u64,
 }
 
+// The header that was read; short where fewer than 13 bytes are there.
 pub enum HeaderRead {
     Got(Header),
     Short,
 }
 
-// The fault of an answer that has no value.
+// Why an answer has no value. Short where it has one: nobody asks then.
 pub fn no_u8(f: Num8) -> Fault
     ensures { λ r. ⌜ r ≡ fault8 f ⌝ }
 {
@@ -61,6 +67,7 @@ pub fn no_u8(f: Num8) -> Fault
     }
 }
 
+// The same of a number of two bytes.
 pub fn no_u16(f: Num16) -> Fault
     ensures { λ r. ⌜ r ≡ fault16 f ⌝ }
 {
@@ -70,6 +77,7 @@ pub fn no_u16(f: Num16) -> Fault
     }
 }
 
+// The same of four bytes.
 pub fn no_u32(f: Num32) -> Fault
     ensures { λ r. ⌜ r ≡ fault32 f ⌝ }
 {
@@ -79,6 +87,7 @@ pub fn no_u32(f: Num32) -> Fault
     }
 }
 
+// The same of eight bytes.
 pub fn no_u64(f: Num64) -> Fault
     ensures { λ r. ⌜ r ≡ fault64 f ⌝ }
 {
@@ -88,12 +97,14 @@ pub fn no_u64(f: Num64) -> Fault
     }
 }
 
+// A byte as a wider number, so that sums of bytes fit.
 fn wide(x: u8) -> u64
     ensures { λ r. ⌜ (r ≡ x) × (r < 256) ⌝ }
 {
     x as u64
 }
 
+// The number that two bytes are, the first the highest.
 fn be2(s: &[u8], at: usize) -> u64
     requires { ⌜ at + 2 ≤ length (now s) ⌝ }
     ensures { λ r. ⌜ (r ≡ be (part (now (s .entry)) at 2)) × (r < 256 ^ 2) ⌝ }
@@ -101,6 +112,7 @@ fn be2(s: &[u8], at: usize) -> u64
     wide(s[at]) * 256 + wide(s[at + 1])
 }
 
+// The number that four bytes are.
 fn be4(s: &[u8], at: usize) -> u64
     requires { ⌜ at + 4 ≤ length (now s) ⌝ }
     ensures { λ r. ⌜ (r ≡ be (part (now (s .entry)) at 4)) × (r < 256 ^ 4) ⌝ }
@@ -108,6 +120,7 @@ fn be4(s: &[u8], at: usize) -> u64
     ((wide(s[at]) * 256 + wide(s[at + 1])) * 256 + wide(s[at + 2])) * 256 + wide(s[at + 3])
 }
 
+// The number that eight bytes are: two halves.
 fn be8(s: &[u8], at: usize) -> u64
     requires { ⌜ at + 8 ≤ length (now s) ⌝ }
     ensures { λ r. ⌜ (r ≡ be (part (now (s .entry)) at 8)) × (r < 256 ^ 8) ⌝ }
@@ -115,6 +128,7 @@ fn be8(s: &[u8], at: usize) -> u64
     be4(s, at) * 4294967296 + be4(s, at + 4)
 }
 
+// The byte at a place, or short.
 pub fn be_u8(s: &[u8], place: u8) -> Num8
     ensures { λ r. ⌜ num8M r ≡ field (num 1) (now (s .entry)) place ⌝ }
 {
@@ -125,6 +139,7 @@ pub fn be_u8(s: &[u8], place: u8) -> Num8
     Num8::Got(s[at])
 }
 
+// The number that the two bytes at a place are, the first the highest; or short.
 pub fn be_u16(s: &[u8], place: u8) -> Num16
     ensures { λ r. ⌜ num16M r ≡ field (num 2) (now (s .entry)) place ⌝ }
 {
@@ -135,6 +150,7 @@ pub fn be_u16(s: &[u8], place: u8) -> Num16
     Num16::Got(be2(s, at) as u16)
 }
 
+// The number that the four bytes at a place are, or short.
 pub fn be_u32(s: &[u8], place: u8) -> Num32
     ensures { λ r. ⌜ num32M r ≡ field (num 4) (now (s .entry)) place ⌝ }
 {
@@ -145,6 +161,7 @@ pub fn be_u32(s: &[u8], place: u8) -> Num32
     Num32::Got(be4(s, at) as u32)
 }
 
+// The number that the eight bytes at a place are, or short.
 pub fn be_u64(s: &[u8], place: u8) -> Num64
     ensures { λ r. ⌜ num64M r ≡ field (num 8) (now (s .entry)) place ⌝ }
 {
@@ -162,6 +179,7 @@ pub enum Utf {
     Bad,
 }
 
+// Where a text stands behind the first byte of a sequence.
 fn utf_lead(b: u8) -> Utf
     ensures { λ r. ⌜ utfM r ≡ lead b ⌝ }
 {
@@ -190,6 +208,7 @@ fn utf_lead(b: u8) -> Utf
     }
 }
 
+// Where it stands one byte on.
 fn utf_step(u: Utf, b: u8) -> Utf
     ensures { λ r. ⌜ utfM r ≡ utfStep (utfM u) b ⌝ }
 {
@@ -215,6 +234,7 @@ fn utf_step(u: Utf, b: u8) -> Utf
     }
 }
 
+// Where it stands four bytes on.
 fn utf_four(u: Utf, s: &[u8], at: usize) -> Utf
     requires { ⌜ at + 4 ≤ length (now s) ⌝ }
     ensures { λ r. ⌜ utfM r ≡ utfRun (utfM u) (part (now (s .entry)) at 4) ⌝ }
@@ -225,6 +245,7 @@ fn utf_four(u: Utf, s: &[u8], at: usize) -> Utf
     utf_step(u3, s[at + 3])
 }
 
+// Whether it may end there.
 fn is_fresh(u: Utf) -> bool
     ensures { λ r. ⌜ r ≡ isFresh (utfM u) ⌝ }
 {
@@ -247,7 +268,8 @@ fn well_formed(s: &[u8], at: usize, eight: bool) -> bool
     is_fresh(u)
 }
 
-// A text is kept as the number that its bytes are. Where no byte has its high bit set, it is ASCII and nothing else is looked at.
+// The text of four bytes at a place, kept as the number that its bytes are; or short, or 3 where it is not UTF-8. Where no byte has its high bit
+// set, it is ASCII and nothing else is looked at.
 pub fn text4(s: &[u8], place: u8) -> Num32
     ensures { λ r. ⌜ num32M r ≡ field (text 4) (now (s .entry)) place ⌝ }
 {
@@ -266,6 +288,7 @@ pub fn text4(s: &[u8], place: u8) -> Num32
     }
 }
 
+// The same of eight bytes.
 pub fn text8(s: &[u8], place: u8) -> Num64
     ensures { λ r. ⌜ num64M r ≡ field (text 8) (now (s .entry)) place ⌝ }
 {
@@ -284,7 +307,7 @@ pub fn text8(s: &[u8], place: u8) -> Num64
     }
 }
 
-// The 13 bytes before a body. Tracking number and timestamp are read as one number of eight bytes: no form of a six-byte read is one load.
+// The 13 bytes before a body, or short. Tracking number and timestamp are read as one number of eight bytes: no form of a six-byte read is one load.
 pub fn read_header(s: &[u8]) -> HeaderRead
     ensures { λ r. ⌜ headerM r ≡ headerOf (now (s .entry)) ⌝ }
 {

@@ -1,7 +1,7 @@
 // The bodies about stocks, participants and the market: H, J, K, L, N, R, S, V, W, Y.
 //
-// Each takes its fields in order, from place 13 on. A field's answer is taken apart before the next is read, and the first that has no value
-// ends the body.
+// Each takes its fields in order, from place 13 of a window on, and answers the body with the place behind it. A field's answer is taken apart
+// before the next is read, and the first that has no value ends the body: then its fault is answered.
 ghost use mathlib.Core.Path.{_≡_};
 ghost use Rattle.format.specs.Ascii.{'H', 'J', 'K', 'L', 'N', 'R', 'S', 'V', 'W', 'Y'};
 ghost use Rattle.format.specs.Rows.{bodyOf};
@@ -17,6 +17,7 @@ use records::MarketParticipantPosition;
 use records::RetailPriceImprovementIndicator;
 use records::StockDirectory;
 
+// The body of H, a trading action.
 pub fn parse_trading_action(s: &[u8]) -> BodyRead
     ensures { λ r. ⌜ bodyM r ≡ bodyOf 'H' (now (s .entry)) ⌝ }
 {
@@ -46,6 +47,7 @@ pub fn parse_trading_action(s: &[u8]) -> BodyRead
     )
 }
 
+// The body of J, an auction collar.
 pub fn parse_luld_auction_collar(s: &[u8]) -> BodyRead
     ensures { λ r. ⌜ bodyM r ≡ bodyOf 'J' (now (s .entry)) ⌝ }
 {
@@ -81,6 +83,7 @@ pub fn parse_luld_auction_collar(s: &[u8]) -> BodyRead
     )
 }
 
+// The body of K, an IPO quoting period.
 pub fn parse_ipo_quoting_period(s: &[u8]) -> BodyRead
     ensures { λ r. ⌜ bodyM r ≡ bodyOf 'K' (now (s .entry)) ⌝ }
 {
@@ -111,6 +114,7 @@ pub fn parse_ipo_quoting_period(s: &[u8]) -> BodyRead
     )
 }
 
+// The body of L, a participant's position.
 pub fn parse_participant_position(s: &[u8]) -> BodyRead
     ensures { λ r. ⌜ bodyM r ≡ bodyOf 'L' (now (s .entry)) ⌝ }
 {
@@ -146,6 +150,7 @@ pub fn parse_participant_position(s: &[u8]) -> BodyRead
     )
 }
 
+// The body of N, a retail price improvement indicator.
 pub fn parse_retail_price_improvement_indicator(s: &[u8]) -> BodyRead
     ensures { λ r. ⌜ bodyM r ≡ bodyOf 'N' (now (s .entry)) ⌝ }
 {
@@ -166,6 +171,7 @@ pub fn parse_retail_price_improvement_indicator(s: &[u8]) -> BodyRead
     )
 }
 
+// The body of R, a stock directory.
 pub fn parse_stock_directory(s: &[u8]) -> BodyRead
     ensures { λ r. ⌜ bodyM r ≡ bodyOf 'R' (now (s .entry)) ⌝ }
 {
@@ -246,6 +252,7 @@ pub fn parse_stock_directory(s: &[u8]) -> BodyRead
     )
 }
 
+// The body of S, a system event.
 pub fn parse_system_event(s: &[u8]) -> BodyRead
     ensures { λ r. ⌜ bodyM r ≡ bodyOf 'S' (now (s .entry)) ⌝ }
 {
@@ -261,6 +268,7 @@ pub fn parse_system_event(s: &[u8]) -> BodyRead
     )
 }
 
+// The body of V, the decline levels.
 pub fn parse_mwcb_decline_level(s: &[u8]) -> BodyRead
     ensures { λ r. ⌜ bodyM r ≡ bodyOf 'V' (now (s .entry)) ⌝ }
 {
@@ -286,6 +294,7 @@ pub fn parse_mwcb_decline_level(s: &[u8]) -> BodyRead
     )
 }
 
+// The body of W, a breach of a level.
 pub fn parse_breach(s: &[u8]) -> BodyRead
     ensures { λ r. ⌜ bodyM r ≡ bodyOf 'W' (now (s .entry)) ⌝ }
 {
@@ -296,6 +305,7 @@ pub fn parse_breach(s: &[u8]) -> BodyRead
     BodyRead::Got(Body::Breach(codes::level_of(level)), tables::END_W)
 }
 
+// The body of Y, a Reg SHO restriction.
 pub fn parse_reg_sho_restriction(s: &[u8]) -> BodyRead
     ensures { λ r. ⌜ bodyM r ≡ bodyOf 'Y' (now (s .entry)) ⌝ }
 {

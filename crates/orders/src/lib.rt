@@ -1,7 +1,7 @@
 // The bodies of orders, trades and crosses: A and F, B, C, D, E, I, P, Q, U, X.
 //
-// Each takes its fields in order, from place 13 on. A field's answer is taken apart before the next is read, and the first that has no value
-// ends the body.
+// Each takes its fields in order, from place 13 of a window on, and answers the body with the place behind it. A field's answer is taken apart
+// before the next is read, and the first that has no value ends the body: then its fault is answered.
 ghost use mathlib.Core.Path.{_≡_};
 ghost use mathlib.Core.Bool.{cond};
 ghost use Rattle.format.specs.Ascii.{'A', 'B', 'C', 'D', 'E', 'F', 'I', 'P', 'Q', 'U', 'X'};
@@ -19,7 +19,7 @@ use records::Mpid;
 use records::NonCrossTrade;
 use records::ReplaceOrder;
 
-// With attribution it is F, without it A.
+// The body of an add order: of F with attribution, of A without.
 pub fn parse_add_order(s: &[u8], attribution: bool) -> BodyRead
     ensures { λ r. ⌜ bodyM r ≡ bodyOf (cond attribution 'F' 'A') (now (s .entry)) ⌝ }
 {
@@ -73,6 +73,7 @@ pub fn parse_add_order(s: &[u8], attribution: bool) -> BodyRead
     )
 }
 
+// The body of B, a broken trade.
 pub fn parse_broken_trade(s: &[u8]) -> BodyRead
     ensures { λ r. ⌜ bodyM r ≡ bodyOf 'B' (now (s .entry)) ⌝ }
 {
@@ -83,6 +84,7 @@ pub fn parse_broken_trade(s: &[u8]) -> BodyRead
     BodyRead::Got(Body::BrokenTrade { match_number }, tables::END_B)
 }
 
+// The body of C, an order executed with a price.
 pub fn parse_order_executed_with_price(s: &[u8]) -> BodyRead
     ensures { λ r. ⌜ bodyM r ≡ bodyOf 'C' (now (s .entry)) ⌝ }
 {
@@ -118,6 +120,7 @@ pub fn parse_order_executed_with_price(s: &[u8]) -> BodyRead
     )
 }
 
+// The body of D, a deleted order.
 pub fn parse_delete_order(s: &[u8]) -> BodyRead
     ensures { λ r. ⌜ bodyM r ≡ bodyOf 'D' (now (s .entry)) ⌝ }
 {
@@ -128,6 +131,7 @@ pub fn parse_delete_order(s: &[u8]) -> BodyRead
     BodyRead::Got(Body::DeleteOrder { reference }, tables::END_D)
 }
 
+// The body of E, an executed order.
 pub fn parse_order_executed(s: &[u8]) -> BodyRead
     ensures { λ r. ⌜ bodyM r ≡ bodyOf 'E' (now (s .entry)) ⌝ }
 {
@@ -153,6 +157,7 @@ pub fn parse_order_executed(s: &[u8]) -> BodyRead
     )
 }
 
+// The body of I, an imbalance.
 pub fn parse_imbalance_indicator(s: &[u8]) -> BodyRead
     ensures { λ r. ⌜ bodyM r ≡ bodyOf 'I' (now (s .entry)) ⌝ }
 {
@@ -208,6 +213,7 @@ pub fn parse_imbalance_indicator(s: &[u8]) -> BodyRead
     )
 }
 
+// The body of P, a trade that is no cross.
 pub fn parse_noncross_trade(s: &[u8]) -> BodyRead
     ensures { λ r. ⌜ bodyM r ≡ bodyOf 'P' (now (s .entry)) ⌝ }
 {
@@ -248,6 +254,7 @@ pub fn parse_noncross_trade(s: &[u8]) -> BodyRead
     )
 }
 
+// The body of Q, a cross trade.
 pub fn parse_cross_trade(s: &[u8]) -> BodyRead
     ensures { λ r. ⌜ bodyM r ≡ bodyOf 'Q' (now (s .entry)) ⌝ }
 {
@@ -283,6 +290,7 @@ pub fn parse_cross_trade(s: &[u8]) -> BodyRead
     )
 }
 
+// The body of U, a replaced order.
 pub fn parse_replace_order(s: &[u8]) -> BodyRead
     ensures { λ r. ⌜ bodyM r ≡ bodyOf 'U' (now (s .entry)) ⌝ }
 {
@@ -313,6 +321,7 @@ pub fn parse_replace_order(s: &[u8]) -> BodyRead
     )
 }
 
+// The body of X, a cancelled order.
 pub fn parse_order_cancelled(s: &[u8]) -> BodyRead
     ensures { λ r. ⌜ bodyM r ≡ bodyOf 'X' (now (s .entry)) ⌝ }
 {

@@ -12,7 +12,7 @@ ghost use Rattle.pen.specs.Encode.{digits, putIn};
 use format::Num32;
 use format::Num64;
 
-// The wider ones are two narrower ones.
+// Two bytes, in order. The wider ones are two narrower ones.
 fn put2(buf: &mut [u8], at: usize, v: u16)
     requires { ⌜ at + 2 ≤ length (now buf) ⌝ }
     ensures { λ r. ⌜ now (buf .exit) ≡ sets (now (buf .entry)) at (digits 2 v) ⌝ }
@@ -21,6 +21,7 @@ fn put2(buf: &mut [u8], at: usize, v: u16)
     buf[at + 1] = (v % 256) as u8;
 }
 
+// Four bytes.
 fn put4(buf: &mut [u8], at: usize, v: u32)
     requires { ⌜ at + 4 ≤ length (now buf) ⌝ }
     ensures { λ r. ⌜ now (buf .exit) ≡ sets (now (buf .entry)) at (digits 4 v) ⌝ }
@@ -29,6 +30,7 @@ fn put4(buf: &mut [u8], at: usize, v: u32)
     put2(buf, at + 2, (v % 65536) as u16);
 }
 
+// Eight bytes.
 fn put8(buf: &mut [u8], at: usize, v: u64)
     requires { ⌜ at + 8 ≤ length (now buf) ⌝ }
     ensures { λ r. ⌜ now (buf .exit) ≡ sets (now (buf .entry)) at (digits 8 v) ⌝ }
@@ -37,6 +39,7 @@ fn put8(buf: &mut [u8], at: usize, v: u64)
     put4(buf, at + 4, (v % 4294967296) as u32);
 }
 
+// The last six bytes.
 fn put6(buf: &mut [u8], at: usize, v: u64)
     requires { ⌜ at + 6 ≤ length (now buf) ⌝ }
     ensures { λ r. ⌜ now (buf .exit) ≡ sets (now (buf .entry)) at (digits 6 v) ⌝ }
@@ -45,8 +48,10 @@ fn put6(buf: &mut [u8], at: usize, v: u64)
     put4(buf, at + 2, (v % 4294967296) as u32);
 }
 
+// Puts a byte at a place, where it fits.
 pub fn set_u8(buf: &mut [u8], place: u8, v: u8)
-    ensures { λ r. ⌜ (now (buf .exit) ≡ putIn (now (buf .entry)) place (digits 1 v)) × (v < 256 ^ 1) ⌝ }
+    ensures { λ r. ⌜ now (buf .exit) ≡ putIn (now (buf .entry)) place (digits 1 v) ⌝ }
+    ensures { λ r. ⌜ v < 256 ^ 1 ⌝ }
 {
     let at = place as usize;
     if at + 1 <= buf.len() {
@@ -54,8 +59,10 @@ pub fn set_u8(buf: &mut [u8], place: u8, v: u8)
     }
 }
 
+// Puts two bytes at a place, the highest first, where both fit.
 pub fn set_u16(buf: &mut [u8], place: u8, v: u16)
-    ensures { λ r. ⌜ (now (buf .exit) ≡ putIn (now (buf .entry)) place (digits 2 v)) × (v < 256 ^ 2) ⌝ }
+    ensures { λ r. ⌜ now (buf .exit) ≡ putIn (now (buf .entry)) place (digits 2 v) ⌝ }
+    ensures { λ r. ⌜ v < 256 ^ 2 ⌝ }
 {
     let at = place as usize;
     if at + 2 <= buf.len() {
@@ -63,8 +70,10 @@ pub fn set_u16(buf: &mut [u8], place: u8, v: u16)
     }
 }
 
+// Puts four bytes at a place, where all fit.
 pub fn set_u32(buf: &mut [u8], place: u8, v: u32)
-    ensures { λ r. ⌜ (now (buf .exit) ≡ putIn (now (buf .entry)) place (digits 4 v)) × (v < 256 ^ 4) ⌝ }
+    ensures { λ r. ⌜ now (buf .exit) ≡ putIn (now (buf .entry)) place (digits 4 v) ⌝ }
+    ensures { λ r. ⌜ v < 256 ^ 4 ⌝ }
 {
     let at = place as usize;
     if at + 4 <= buf.len() {
@@ -72,8 +81,10 @@ pub fn set_u32(buf: &mut [u8], place: u8, v: u32)
     }
 }
 
+// Puts eight bytes at a place, where all fit.
 pub fn set_u64(buf: &mut [u8], place: u8, v: u64)
-    ensures { λ r. ⌜ (now (buf .exit) ≡ putIn (now (buf .entry)) place (digits 8 v)) × (v < 256 ^ 8) ⌝ }
+    ensures { λ r. ⌜ now (buf .exit) ≡ putIn (now (buf .entry)) place (digits 8 v) ⌝ }
+    ensures { λ r. ⌜ v < 256 ^ 8 ⌝ }
 {
     let at = place as usize;
     if at + 8 <= buf.len() {
@@ -81,7 +92,7 @@ pub fn set_u64(buf: &mut [u8], place: u8, v: u64)
     }
 }
 
-// The last six bytes of a number: the timestamp.
+// Puts the last six bytes of a number at a place, where all fit: the timestamp.
 pub fn set_u48(buf: &mut [u8], place: u8, v: u64)
     ensures { λ r. ⌜ now (buf .exit) ≡ putIn (now (buf .entry)) place (digits 6 v) ⌝ }
 {
@@ -91,7 +102,7 @@ pub fn set_u48(buf: &mut [u8], place: u8, v: u64)
     }
 }
 
-// Whether a text is UTF-8: its bytes, read by the reader's leaf.
+// Whether a text of four bytes is UTF-8: its bytes, read by the reader's leaf.
 pub fn is_text4(v: u32) -> bool
     ensures { λ r. ⌜ r ≡ wellFormed (digits 4 v) ⌝ }
 {
@@ -101,6 +112,7 @@ pub fn is_text4(v: u32) -> bool
     if let Num32::Got(_) = f { true } else { false }
 }
 
+// The same of eight bytes.
 pub fn is_text8(v: u64) -> bool
     ensures { λ r. ⌜ r ≡ wellFormed (digits 8 v) ⌝ }
 {

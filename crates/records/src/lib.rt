@@ -19,14 +19,16 @@ use codes::Side;
 use codes::TradingState;
 use format::Fault;
 
+// Four bytes of text, as the number that they are, the first the highest.
 pub type Text4 = u32;
 
+// Eight bytes of text.
 pub type Text8 = u64;
 
-// Four decimal places.
+// A price with four decimal places.
 pub type Price4 = u32;
 
-// Eight decimal places.
+// A price with eight decimal places.
 pub type Price8 = u64;
 
 // The attribution of an add order: F has one, A has none.
@@ -35,6 +37,7 @@ pub enum Mpid {
     Present(Text4),
 }
 
+// A and F: a new order.
 pub struct AddOrder {
     pub reference: u64,
     pub side: Side,
@@ -44,6 +47,7 @@ pub struct AddOrder {
     pub mpid: Mpid,
 }
 
+// I: the net order imbalance before a cross.
 pub struct ImbalanceIndicator {
     pub paired_shares: u64,
     pub imbalance_shares: u64,
@@ -53,16 +57,20 @@ pub struct ImbalanceIndicator {
     pub near_price: Price4,
     pub current_ref_price: Price4,
     pub cross_type: CrossType,
+    // any byte: it is not judged
     pub price_variation_indicator: u8,
 }
 
+// K: when the quoting of a new stock begins.
 pub struct IpoQuotingPeriod {
     pub stock: Text8,
+    // seconds since midnight
     pub release_time: u32,
     pub release_qualifier: IpoReleaseQualifier,
     pub price: Price4,
 }
 
+// L: what a participant is for a stock.
 pub struct MarketParticipantPosition {
     pub mpid: Text4,
     pub stock: Text8,
@@ -71,11 +79,13 @@ pub struct MarketParticipantPosition {
     pub market_participant_state: MarketParticipantState,
 }
 
+// N: which sides of a stock have retail price improvement.
 pub struct RetailPriceImprovementIndicator {
     pub stock: Text8,
     pub interest_flag: InterestFlag,
 }
 
+// P: a trade against an order that is not displayed.
 pub struct NonCrossTrade {
     pub reference: u64,
     pub side: Side,
@@ -85,6 +95,7 @@ pub struct NonCrossTrade {
     pub match_number: u64,
 }
 
+// Q: a cross.
 pub struct CrossTrade {
     pub shares: u64,
     pub stock: Text8,
@@ -93,6 +104,7 @@ pub struct CrossTrade {
     pub cross_type: CrossType,
 }
 
+// R: a stock and what is known of it at the start of the day.
 pub struct StockDirectory {
     pub stock: Text8,
     pub market_category: MarketCategory,
@@ -101,15 +113,18 @@ pub struct StockDirectory {
     pub round_lots_only: bool,
     pub issue_classification: IssueClassification,
     pub issue_subtype: IssueSubType,
+    // whether it is in production; else a test
     pub authenticity: bool,
     pub short_sale_threshold: Flag,
     pub ipo_flag: Flag,
     pub luld_ref_price_tier: LuldRefPriceTier,
+    // of its codes M and Y are both yes
     pub etp_flag: Flag,
     pub etp_leverage_factor: u32,
     pub inverse_indicator: bool,
 }
 
+// U: an order takes the place of another.
 pub struct ReplaceOrder {
     pub old_reference: u64,
     pub new_reference: u64,
@@ -117,6 +132,7 @@ pub struct ReplaceOrder {
     pub price: Price4,
 }
 
+// What a message says, by its kind. A and F share one.
 pub enum Body {
     AddOrder(AddOrder),
     Breach(LevelBreached),
@@ -176,10 +192,12 @@ pub enum Body {
     },
 }
 
+// A whole message: its header, without the length, and its body.
 pub struct Message {
     pub tag: u8,
     pub stock_locate: u16,
     pub tracking_number: u16,
+    // nanoseconds since midnight
     pub timestamp: u64,
     pub body: Body,
 }
