@@ -31,7 +31,7 @@ use Rattle.reader.specs.Window.{windowM, windowFrom}
 use Rattle.reader.proofs.Back.{window-back}
 
 -- a meaning m that has a left inverse is one-to-one
-one-to-one : {A B : Type 0} (m : A → B) (back : B → A) → ((r : A) → back (m r) ≡ r) → (r r′ : A) → m r ≡ m r′ → r ≡ r′
+pub one-to-one : {A B : Type 0} (m : A → B) (back : B → A) → ((r : A) → back (m r) ≡ r) → (r r′ : A) → m r ≡ m r′ → r ≡ r′
 one-to-one m back h r r′ e = sym (h r) ∙ ap back e ∙ h r′
 
 -- the answer of an enum with a value and a fault, from its field's answer

@@ -8,7 +8,7 @@ use lib.ListN.{length, take, drop}
 use Rattle.stream.specs.declared.Stream.{Stream}
 use Rattle.stream.specs.declared.Answer.{Answer}
 use Rattle.stream.specs.declared.Answer.the-variants.{Message, Wants, Ready, Nothing, Refused}
-use Rattle.stream.specs.State.{sized, placed}
+use Rattle.stream.specs.State.{sized, inBounds}
 use Rattle.stream.specs.Next.{nextOf}
 use Rattle.stream.specs.Told.{toldOf}
 use Rattle.stream.specs.Room.{roomOf, roomBuffer}
@@ -77,4 +77,4 @@ fetchOf src w s b at = fetchBy src w (tries src w (length src - at)) s b at
 unfoldable pub playOf : List ℕ → ℕ → Goes
 playOf src w s b at =
     let bad : ℕ → Out = λ n. halt s (Refused n 0) b at in
-    sized (length b) bad (placed s bad (cond (leb at (length src)) (cond (eqb w 0) (bad 35) (tryOf src w s b at)) (bad 30)))
+    sized (length b) bad (inBounds s bad (cond (leb at (length src)) (cond (eqb w 0) (bad 35) (tryOf src w s b at)) (bad 30)))

@@ -12,7 +12,7 @@ use Rattle.reader.specs.declared.Window.the-variants.{Message as Accepted, Inco
 use Rattle.stream.specs.declared.Stream.{Stream}
 use Rattle.stream.specs.declared.Step.{Step}
 use Rattle.stream.specs.declared.Answer.the-variants.{Message, Wants}
-use Rattle.stream.specs.State.{refuses, marks, sized, placed}
+use Rattle.stream.specs.State.{refuses, marks, sized, inBounds}
 
 -- the window from start to end
 abbrev pub windowAt : Stream → List ℕ → List ℕ
@@ -38,4 +38,4 @@ nextBy s Incomplete = record { state = s; answer = Wants }
 nextBy s (Refused n p) = marks s n p
 
 unfoldable pub nextOf : Stream → List ℕ → Step
-nextOf s b = sized (length b) (refuses s) (placed s (refuses s) (nextBy s (windowOf (windowAt s b))))
+nextOf s b = sized (length b) (refuses s) (inBounds s (refuses s) (nextBy s (windowOf (windowAt s b))))

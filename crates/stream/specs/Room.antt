@@ -8,7 +8,7 @@ use lib.ListN.{length, drop}
 use Rattle.stream.specs.declared.Stream.{Stream}
 use Rattle.stream.specs.declared.Step.{Step}
 use Rattle.stream.specs.declared.Answer.the-variants.{Ready}
-use Rattle.stream.specs.State.{refuses, sized, placed}
+use Rattle.stream.specs.State.{refuses, sized, inBounds}
 
 -- what stands from start on, moved to the front; the bytes behind the copy stay
 abbrev pub moved : List ℕ → ℕ → List ℕ
@@ -18,7 +18,7 @@ moved b start = drop start b ++ drop (length b - start) b
 abbrev pub roomTests : {A : Type 0} → Stream → ℕ → (ℕ → A) → A → A
 roomTests s len bad go =
     sized len bad
-    (placed s bad (cond (leb 52 (s .end - s .start)) (bad 34) (cond (eqb (s .«read_calls») 18446744073709551615) (bad 33) go)))
+    (inBounds s bad (cond (leb 52 (s .end - s .start)) (bad 34) (cond (eqb (s .«read_calls») 18446744073709551615) (bad 33) go)))
 
 abbrev pub roomy : Stream → ℕ → ℕ → Step
 roomy s start end = record {

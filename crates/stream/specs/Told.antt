@@ -6,7 +6,7 @@ use lib.Dec.{ltb, leb, eqb}
 use Rattle.stream.specs.declared.Stream.{Stream}
 use Rattle.stream.specs.declared.Step.{Step}
 use Rattle.stream.specs.declared.Answer.the-variants.{Ready, Nothing}
-use Rattle.stream.specs.State.{refuses, marks, placed}
+use Rattle.stream.specs.State.{refuses, marks, inBounds}
 
 -- bytes came
 abbrev pub fed : Stream → ℕ → Step
@@ -29,10 +29,10 @@ ended s = cond (eqb (s .start) (s .end)) (record { state = s; answer = Nothing }
 -- 30, 32, 33
 unfoldable pub toldOf : Stream → ℕ → Step
 toldOf s n =
-    placed s (refuses s)
+    inBounds s (refuses s)
     (cond (leb n (8192 - s .end))
     (cond (leb n (18446744073709551615 - s .«bytes_read»)) (cond (ltb 0 n) (fed s n) (ended s)) (refuses s 33))
     (refuses s 32))
 
 unfoldable pub failedOf : Stream → Step
-failedOf s = placed s (refuses s) (marks s 11 0)
+failedOf s = inBounds s (refuses s) (marks s 11 0)

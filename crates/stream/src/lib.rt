@@ -9,7 +9,8 @@ ghost use Rattle.stream.specs.Told.{toldOf, failedOf};
 use reader::Window;
 use records::Message;
 
-// The window is the part of the buffer from start to end. The mark is set by a refusal with 1, 2, 3, 10 or 11, and a message clears it.
+// The state of a stream. The window is the part of the buffer from start to end; the counts are of bytes told, of read calls and of messages answered.
+// The mark is set by a refusal with 1, 2, 3, 10 or 11, and a message clears it.
 pub struct Stream {
     pub start: usize,
     pub end: usize,
@@ -34,6 +35,7 @@ pub struct Step {
     pub answer: Answer,
 }
 
+// The state before the first call: all zero. The buffer beside it is zeroed at first.
 pub fn fresh() -> Stream
     ensures { λ r. ⌜ r ≡ freshState ⌝ }
 {
@@ -80,7 +82,8 @@ fn marked(s: Stream, number: u8, place: usize) -> Step
     }
 }
 
-// The one place that reads a window, so that the whole reader is compiled into it.
+// Reads the window: a message, and the state past it; wants bytes; or a refusal, told once. It is the one place that reads a window, so that the
+// whole reader is compiled into it.
 pub fn next_of(s: Stream, buf: &[u8]) -> Step
     ensures { λ r. ⌜ r ≡ nextOf s (now (buf .entry)) ⌝ }
 {
@@ -134,10 +137,11 @@ fn shift(buf: &mut [u8], start: usize)
     }
 }
 
-// Where it is ready, the free part `&mut buf[end..]` is the caller's to fill, and it is not empty. A window of 52 bytes or more needs no refill, so
+// Counts a read call and sees that there is room for it. Where it is ready, the free part `&mut buf[end..]` is the caller's to fill, and it is not empty. A window of 52 bytes or more needs no refill, so
 // that a window at the buffer's end moves over less than 52 bytes.
 pub fn make_room_of(s: Stream, buf: &mut [u8]) -> Step
-    ensures { λ r. ⌜ (r ≡ roomOf s (length (now (buf .entry)))) × (now (buf .exit) ≡ roomBuffer s (now (buf .entry))) ⌝ }
+    ensures { λ r. ⌜ r ≡ roomOf s (length (now (buf .entry))) ⌝ }
+    ensures { λ _. ⌜ now (buf .exit) ≡ roomBuffer s (now (buf .entry)) ⌝ }
 {
     let start = s.start;
     let end = s.end;
@@ -184,13 +188,15 @@ pub fn make_room_of(s: Stream, buf: &mut [u8]) -> Step
     }
 }
 
-// The caller says how many bytes the free part was filled with; none means that the input ended.
+// The caller says how many bytes the free part was filled with, and gets the state that holds them; none means that the input ended: nothing more, or
+// 10 inside a message.
 pub fn told_of(s: Stream, n: usize) -> Step
     ensures { λ r. ⌜ r ≡ toldOf s n ⌝ }
 {
     let start = s.start;
     let end = s.end;
     let bytes_read = s.bytes_read;
+    let error = s.error;
     if start > end {
         return refused(s, 30);
     }
@@ -212,7 +218,7 @@ pub fn told_of(s: Stream, n: usize) -> Step
                 bytes_read: bytes_read + came,
                 read_calls: s.read_calls,
                 messages: s.messages,
-                error: s.error,
+                error,
             },
             answer: Answer::Ready,
         };
@@ -226,7 +232,7 @@ pub fn told_of(s: Stream, n: usize) -> Step
     marked(s, 10, 0)
 }
 
-// The caller says that the read failed.
+// The caller says that the read failed: 11 and the mark, or nothing more if it was set.
 pub fn told_failed_of(s: Stream) -> Step
     ensures { λ r. ⌜ r ≡ failedOf s ⌝ }
 {

@@ -3,3 +3,4 @@ pub mod Calls
 pub mod Reach
 pub mod Reads52
 pub mod Never30
+pub mod Replies

@@ -7,7 +7,8 @@ use native.Mathlib.Omega.{arith}
 use Rattle.laws.proofs.Numbers.{number-low}
 use Rattle.stream.specs.declared.Stream.{Stream}
 use Rattle.stream.specs.declared.Step.{Step}
-use Rattle.stream.specs.State.{marks, numberOf}
+use Rattle.stream.specs.State.{marks}
+use Rattle.stream.specs.Meaning.{numberOf}
 use Rattle.stream.specs.Next.{windowAt, nextOf}
 use Rattle.stream.specs.Room.{roomOf}
 use Rattle.stream.specs.Told.{toldOf, failedOf}

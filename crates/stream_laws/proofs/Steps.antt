@@ -15,7 +15,7 @@ use Rattle.reader.specs.Window.{windowOf}
 use Rattle.stream.specs.declared.Stream.{Stream}
 use Rattle.stream.specs.declared.Step.{Step}
 use Rattle.stream.specs.declared.Answer.the-variants.{Wants, Nothing}
-use Rattle.stream.specs.State.{refuses, marks, sized, placed}
+use Rattle.stream.specs.State.{refuses, marks, sized, inBounds}
 use Rattle.stream.specs.Next.{windowAt, taken, nextBy, nextOf}
 use Rattle.stream.specs.Room.{roomy, roomOf}
 use Rattle.stream.specs.Told.{fed, toldOf, failedOf}
@@ -28,7 +28,7 @@ test P true f g = f refl
 test P false f g = g refl
 
 -- 30, or the state is sound
-checked : (P : Step → Type 0) (s : Stream) {go : Step} → ((Sound s → ⊥) → P (refuses s 30)) → (Sound s → P go) → P (placed s (refuses s) go)
+checked : (P : Step → Type 0) (s : Stream) {go : Step} → ((Sound s → ⊥) → P (refuses s 30)) → (Sound s → P go) → P (inBounds s (refuses s) go)
 checked P s bad good =
     test P (leb (s .start) (s .end))
     (λ a. test P (leb (s .end) 8192)

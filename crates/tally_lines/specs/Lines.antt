@@ -7,7 +7,7 @@ use lib.Dec.{eqb, ltb}
 use lib.ListN.{length, getD}
 use Rattle.text.specs.Decimal.{behind}
 use Rattle.stream.specs.declared.Answer.{Answer}
-use Rattle.stream.specs.State.{numberOf, placeOf}
+use Rattle.stream.specs.Meaning.{numberOf, placeOf}
 
 -- the line of a tag value, if it has one
 unfoldable pub lineOf : ℕ → ℕ → List ℕ

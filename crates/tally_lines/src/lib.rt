@@ -3,7 +3,7 @@ ghost use mathlib.Core.Path.{_≡_};
 ghost use Prim.Native.Nat.{_+_, _≤_};
 ghost use lib.ListN.{length};
 ghost use Rattle.text.specs.Decimal.{Wrote, Puts};
-ghost use Rattle.stream.specs.State.{numberOf, placeOf};
+ghost use Rattle.stream.specs.Meaning.{numberOf, placeOf};
 ghost use Rattle.tally_lines.specs.Lines.{lineOf, linesOf, messagesOf, stoppedOf, printedOf};
 use stream::Answer;
 

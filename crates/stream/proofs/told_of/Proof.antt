@@ -37,11 +37,11 @@ returns-4 : tie.Need-returns-4
 unfolding toldOf
 returns-4 c = simp (le-leb _ _ (c .before .before .before .before .if1 .left), le-leb _ _ (c .before .before .before .if2 .left), le-leb _ _ (c .before .before .if3 .left), lt-leb _ _ (c .before .if4 .taken)) (c .refused4 .ensures)
 
-add-t10 : tie.Need-add-t10
-add-t10 c = search needs
-
 add-t11 : tie.Need-add-t11
 add-t11 c = search needs
+
+add-t12 : tie.Need-add-t12
+add-t12 c = search needs
 
 returns-5 : tie.Need-returns-5
 unfolding toldOf
@@ -71,8 +71,8 @@ told-of-spec =
     sub-if4
     refused-requires-4
     returns-4
-    add-t10
     add-t11
+    add-t12
     returns-5
     returns-6
     marked-requires
