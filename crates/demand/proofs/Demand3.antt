@@ -13,7 +13,7 @@ use Rattle.reader.specs.Window.{windowOf}
 use Rattle.laws.proofs.Answers.{keeps, enough}
 use Rattle.walk.specs.declared.Walk.{Walk}
 use Rattle.walk.specs.declared.Answer.the-variants.{Refused}
-use Rattle.walk.specs.Walk.{frameSize, frameOf, freshOf, roomOf, stepOf, doneOf, Lawful}
+use Rattle.walk.specs.Walk.{frameSize, frameOf, freshOf, countable, stepOf, doneOf, Lawful}
 use Rattle.walk.specs.Frames.{Entry, Walked, walkOf, joined, pad, runOf, ranOf}
 use Rattle.walk.proofs.Cases.{step-33}
 use Rattle.demand.specs.Promises.{Overwritten, Demand3, Reached, start, next}
@@ -60,9 +60,9 @@ module _ (win : List ℕ → Window) (laws : Lawful win) where
   holds-next : (w : Walk) (q p : List ℕ) → Holds w q
       → (x : List ℕ) × Holds (stepOf win w p .state) x × (stepOf win w p .answer ≡ Refused 30 → ⊥)
   unfolding doneOf
-  holds-next w q p H = go (roomOf (w .offset) (w .seen) (length p)) refl
+  holds-next w q p H = go (countable (w .offset) (w .seen) (length p)) refl
     where
-      go : (b : Bool) → roomOf (w .offset) (w .seen) (length p) ≡ b
+      go : (b : Bool) → countable (w .offset) (w .seen) (length p) ≡ b
           → (x : List ℕ) × Holds (stepOf win w p .state) x × (stepOf win w p .answer ≡ Refused 30 → ⊥)
       go false e =
           let s = step-33 win w p (holds-sound win laws w q H) e in

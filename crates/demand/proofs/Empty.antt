@@ -8,14 +8,14 @@ use native.Mathlib.Nat.{add-zero}
 use native.Mathlib.Omega.{arith}
 use Rattle.reader.specs.declared.Window.{Window}
 use Rattle.walk.specs.declared.Walk.{Walk}
-use Rattle.walk.specs.Walk.{frameSize, soundOf, roomOf, stepOf}
+use Rattle.walk.specs.Walk.{frameSize, soundOf, countable, stepOf}
 use Rattle.walk.proofs.Held.{put-nil}
 use Rattle.walk.proofs.Cases.{ready-of, step-30, step-33, step-moves, moved-more}
 
 pub empty-piece : (win : List ℕ → Window) (w : Walk) → (stepOf win w [] .state ≡ w) × (stepOf win w [] .used ≡ 0)
 empty-piece win w = sound (soundOf w) refl
   where
-    room : (b : Bool) → soundOf w ≡ true → roomOf (w .offset) (w .seen) 0 ≡ b → (stepOf win w [] .state ≡ w) × (stepOf win w [] .used ≡ 0)
+    room : (b : Bool) → soundOf w ≡ true → countable (w .offset) (w .seen) 0 ≡ b → (stepOf win w [] .state ≡ w) × (stepOf win w [] .used ≡ 0)
     room false s r = rw (← step-33 win w [] s r) (refl, refl)
     room true s r =
         let q = ready-of w 0 s r in
@@ -28,4 +28,4 @@ empty-piece win w = sound (soundOf w) refl
 
     sound : (b : Bool) → soundOf w ≡ b → (stepOf win w [] .state ≡ w) × (stepOf win w [] .used ≡ 0)
     sound false s = rw (← step-30 win w [] s) (refl, refl)
-    sound true s = room (roomOf (w .offset) (w .seen) 0) s refl
+    sound true s = room (countable (w .offset) (w .seen) 0) s refl

@@ -5,3 +5,4 @@ pub mod Overwriting
 pub mod Demand3
 pub mod Thirty
 pub mod Empty
+pub mod Reports

@@ -14,7 +14,7 @@ use Rattle.walk.specs.declared.Stepped.{Stepped}
 use Rattle.walk.specs.declared.Verdict.{Verdict}
 use Rattle.walk.proofs.Held.{put-started}
 use Rattle.walk.proofs.Cases.{ready-of, step-30, step-33, step-moves, moved-more, moved-done, count-one}
-use Rattle.walk.specs.Walk.{soundOf, roomOf, stepOf, movedOf, doneOf, judgeOf, moreOf, refusedOf, frameSize, put, Ready}
+use Rattle.walk.specs.Walk.{soundOf, countable, stepOf, movedOf, doneOf, judgeOf, moreOf, refusedOf, frameSize, put, Ready}
 use Rattle.lines.specs.Blocks.{refusesOf, Sane}
 
 -- the three kinds of a step
@@ -37,13 +37,13 @@ view win w p = sound (soundOf w) refl
         rw (← moved-done win w p (frameSize x) (judgeOf win x (frameSize x)) (doneOf w (frameSize x - w .seen) (frameSize x) (judgeOf win x (frameSize x))) refl le refl refl)
         (done x (judgeOf win x (frameSize x)) r (put-started (w .held) (w .seen) p (r .started)) le)
 
-    room : (b : Bool) → soundOf w ≡ true → roomOf (w .offset) (w .seen) (length p) ≡ b → View w p (stepOf win w p)
+    room : (b : Bool) → soundOf w ≡ true → countable (w .offset) (w .seen) (length p) ≡ b → View w p (stepOf win w p)
     room false s r = rw (← step-33 win w p s r) (refuses 33)
     room true s r = rw (step-moves win w p s r) (moved (ready-of w (length p) s r) (ltb (w .seen + length p) (frameSize (put (w .held) (w .seen) p))) refl)
 
     sound : (b : Bool) → soundOf w ≡ b → View w p (stepOf win w p)
     sound false s = rw (← step-30 win w p s) (refuses 30)
-    sound true s = room (roomOf (w .offset) (w .seen) (length p)) s refl
+    sound true s = room (countable (w .offset) (w .seen) (length p)) s refl
 
 pub record Moved (w : Walk) (p : List ℕ) (st : Stepped) : Type 0 where
   pub within : st .used ≤ length p

@@ -11,7 +11,7 @@ use lib.ListN.{length, replicate}
 use Rattle.format.proofs.Tests.{and-split}
 use Rattle.reader.specs.declared.Window.{Window}
 use Rattle.walk.specs.declared.Walk.{Walk}
-use Rattle.walk.specs.Walk.{frameSize, zeros, zeroFrom, soundOf, roomOf, readyOf, Ready, put, judgeOf, doneOf, moreOf, movedOf, stepOf}
+use Rattle.walk.specs.Walk.{frameSize, zeros, zeroFrom, soundOf, countable, readyOf, Ready, put, judgeOf, doneOf, moreOf, movedOf, stepOf}
 use Rattle.walk.proofs.Held.{put-there, put-front}
 use Rattle.walk.proofs.Cases.{ready-of, sound-rest, step-30, step-33, step-moves, moved-more, moved-done}
 use Rattle.lines.specs.Blocks.{refusesOf, startOf}
@@ -19,10 +19,10 @@ use Rattle.lines.specs.Blocks.{refusesOf, startOf}
 -- ---- what `ready` says
 
 pub ready-sound : (w : Walk) (n : ℕ) → readyOf w n ≡ true → soundOf w ≡ true
-ready-sound w n e = and-split (soundOf w) (roomOf (w .offset) (w .seen) n) e .0
+ready-sound w n e = and-split (soundOf w) (countable (w .offset) (w .seen) n) e .0
 
-pub ready-room : (w : Walk) (n : ℕ) → readyOf w n ≡ true → roomOf (w .offset) (w .seen) n ≡ true
-ready-room w n e = and-split (soundOf w) (roomOf (w .offset) (w .seen) n) e .1
+pub ready-room : (w : Walk) (n : ℕ) → readyOf w n ≡ true → countable (w .offset) (w .seen) n ≡ true
+ready-room w n e = and-split (soundOf w) (countable (w .offset) (w .seen) n) e .1
 
 pub ready-all : (w : Walk) (n : ℕ) → readyOf w n ≡ true → Ready w n
 ready-all w n e = ready-of w n (ready-sound w n e) (ready-room w n e)
@@ -48,13 +48,13 @@ module _ (win : List ℕ → Window) where
   pub ready-refused : (w : Walk) (p : List ℕ) → readyOf w (length p) ≡ false → refusesOf (stepOf win w p .answer) ≡ true
   ready-refused w p e = go (soundOf w) refl e
     where
-      room : (c : Bool) → soundOf w ≡ true → roomOf (w .offset) (w .seen) (length p) ≡ c → (true && c) ≡ false → refusesOf (stepOf win w p .answer) ≡ true
+      room : (c : Bool) → soundOf w ≡ true → countable (w .offset) (w .seen) (length p) ≡ c → (true && c) ≡ false → refusesOf (stepOf win w p .answer) ≡ true
       room true s r f = absurd (false≢true (sym f))
       room false s r f = rw (← step-33 win w p s r)
 
-      go : (a : Bool) → soundOf w ≡ a → (soundOf w && roomOf (w .offset) (w .seen) (length p)) ≡ false → refusesOf (stepOf win w p .answer) ≡ true
+      go : (a : Bool) → soundOf w ≡ a → (soundOf w && countable (w .offset) (w .seen) (length p)) ≡ false → refusesOf (stepOf win w p .answer) ≡ true
       go false s f = rw (← step-30 win w p s)
-      go true s f = room (roomOf (w .offset) (w .seen) (length p)) s refl (rw s at f)
+      go true s f = room (countable (w .offset) (w .seen) (length p)) s refl (rw s at f)
 
   pub ready-moves : (w : Walk) (p : List ℕ) → readyOf w (length p) ≡ true → stepOf win w p ≡ movedOf win w p
   ready-moves w p e = step-moves win w p (ready-sound w (length p) e) (ready-room w (length p) e)

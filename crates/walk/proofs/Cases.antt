@@ -14,7 +14,7 @@ use Rattle.walk.specs.declared.Walk.{Walk}
 use Rattle.walk.specs.declared.Verdict.{Verdict}
 use Rattle.walk.specs.declared.Verdict.the-variants.{Accepted, Bad}
 use Rattle.walk.specs.declared.Stepped.{Stepped}
-use Rattle.walk.specs.Walk.{frameSize, countOf, zeroFrom, soundOf, roomOf, Ready, put, judgeOf, doneOf, moreOf, refusedOf, movedBy, movedOf, stepOf}
+use Rattle.walk.specs.Walk.{frameSize, countOf, zeroFrom, soundOf, countable, Ready, put, judgeOf, doneOf, moreOf, refusedOf, movedBy, movedOf, stepOf}
 use Rattle.walk.proofs.Held.{put-front}
 
 pub count-one : (v : Verdict) → countOf v ≤ 1
@@ -44,11 +44,11 @@ sound-rest w h k m =
 
 -- ---- 33
 
--- the code's test for room, which does not wrap, is the test of `roomOf`
-pub room-same : (o s n : ℕ) → o < 2 ^ 64 → s ≤ 18446744073709551615 - o → leb n (18446744073709551615 - o - s) ≡ roomOf o s n
+-- the code's test for room, which does not wrap, is the test of `countable`
+pub room-same : (o s n : ℕ) → o < 2 ^ 64 → s ≤ 18446744073709551615 - o → leb n (18446744073709551615 - o - s) ≡ countable o s n
 room-same o s n f h = go (leb n (18446744073709551615 - o - s)) refl
   where
-    go : (b : Bool) → leb n (18446744073709551615 - o - s) ≡ b → leb n (18446744073709551615 - o - s) ≡ roomOf o s n
+    go : (b : Bool) → leb n (18446744073709551615 - o - s) ≡ b → leb n (18446744073709551615 - o - s) ≡ countable o s n
     go true e = e ∙ sym (lt-ltb (o + s + n) (2 ^ 64) (omega (arith, leb-true n (18446744073709551615 - o - s) e)))
     go false e = e ∙ sym (le-ltb (o + s + n) (2 ^ 64) (omega (arith, leb-false n (18446744073709551615 - o - s) e)))
 
@@ -62,7 +62,7 @@ sound-says w s =
     let t = and-split _ _ (q .0) in
     (ltb-true _ _ (t .0), leb-true _ _ (t .1), leb-true _ _ (q .1), p .1)
 
-pub ready-of : (w : Walk) (n : ℕ) → soundOf w ≡ true → roomOf (w .offset) (w .seen) n ≡ true → Ready w n
+pub ready-of : (w : Walk) (n : ℕ) → soundOf w ≡ true → countable (w .offset) (w .seen) n ≡ true → Ready w n
 ready-of w n s r =
     let q = sound-says w s in
     record { started = q .0; room = ltb-true _ _ r; two = q .1; counted = q .2 }
@@ -90,7 +90,7 @@ module _ (win : List ℕ → Window) where
   moved-done w p size v r z le j d =
       rw (le-ltb (w .seen + length p) (frameSize (put (w .held) (w .seen) p)) (omega arith), ← z, ← j) d
 
-  pub step-moves : (w : Walk) (p : List ℕ) → soundOf w ≡ true → roomOf (w .offset) (w .seen) (length p) ≡ true
+  pub step-moves : (w : Walk) (p : List ℕ) → soundOf w ≡ true → countable (w .offset) (w .seen) (length p) ≡ true
       → stepOf win w p ≡ movedOf win w p
   unfolding stepOf
   step-moves w p s r = rw (s, r)
@@ -99,7 +99,7 @@ module _ (win : List ℕ → Window) where
   unfolding stepOf
   step-30 w p s = rw s
 
-  pub step-33 : (w : Walk) (p : List ℕ) → soundOf w ≡ true → roomOf (w .offset) (w .seen) (length p) ≡ false
+  pub step-33 : (w : Walk) (p : List ℕ) → soundOf w ≡ true → countable (w .offset) (w .seen) (length p) ≡ false
       → refusedOf w 33 ≡ stepOf win w p
   unfolding stepOf
   step-33 w p s r = rw (s, r)

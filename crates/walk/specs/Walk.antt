@@ -50,11 +50,11 @@ soundOf w =
     && zeroFrom (w .held) (w .seen)
 
 -- 33, turned round
-abbrev pub roomOf : ℕ → ℕ → ℕ → Bool
-roomOf offset seen n = ltb (offset + seen + n) (2 ^ 64)
+abbrev pub countable : ℕ → ℕ → ℕ → Bool
+countable offset seen n = ltb (offset + seen + n) (2 ^ 64)
 
 abbrev pub readyOf : Walk → ℕ → Bool
-readyOf w n = soundOf w && roomOf (w .offset) (w .seen) n
+readyOf w n = soundOf w && countable (w .offset) (w .seen) n
 
 -- what they leave of a state, for a piece of n bytes
 pub record Ready (w : Walk) (n : ℕ) : Type 0 where
@@ -116,7 +116,7 @@ module _ (win : List ℕ → Window) where
 
   unfoldable pub stepOf : Walk → List ℕ → Stepped
   stepOf w piece =
-      cond (soundOf w) (cond (roomOf (w .offset) (w .seen) (length piece)) (movedOf w piece) (refusedOf w 33)) (refusedOf w 30)
+      cond (soundOf w) (cond (countable (w .offset) (w .seen) (length piece)) (movedOf w piece) (refusedOf w 33)) (refusedOf w 30)
 
 -- the two laws of the window's answer that the walk rests on: appended bytes change nothing of an answer; 52 bytes have one
 pub record Lawful (win : List ℕ → Window) : Type 0 where

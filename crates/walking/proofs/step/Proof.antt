@@ -1,13 +1,13 @@
--- `walk::step` meets its contract.
+-- `walking::step` meets its contract.
 -- Assumes nothing.
 use mathlib.Core.Path.{sym, _∙_}
 use borrow.Author.Tests.{not-true, not-false}
 use lib.ListN.{length}
 use Rattle.reader.specs.Window.{windowOf}
 use Rattle.walk.proofs.Cases.{ready-of, step-moves, step-30, step-33}
 use borrow.Author.Needs.{needs}
-use Rattle.walk.proofs.step.Statement.{statement}
-use Rattle.walk.proofs.step.Tie as tie
+use Rattle.walking.proofs.step.Statement.{statement}
+use Rattle.walking.proofs.step.Tie as tie
 
 sound-requires : tie.Need-sound-requires
 sound-requires c κs = search needs

@@ -1,12 +1,12 @@
--- `walk::judge_joined` meets its contract.
+-- `walking::judge_joined` meets its contract.
 -- Assumes nothing.
 use mathlib.Core.Path.{_≡_, _∙_}
 use lib.ListN.{length}
 use Rattle.reader.specs.Window.{windowOf}
 use Rattle.walk.proofs.Cases.{judge-either}
 use borrow.Author.Needs.{needs}
-use Rattle.walk.proofs.judge_joined.Statement.{statement}
-use Rattle.walk.proofs.judge_joined.Tie as tie
+use Rattle.walking.proofs.judge_joined.Statement.{statement}
+use Rattle.walking.proofs.judge_joined.Tie as tie
 
 join-requires : tie.Need-join-requires
 join-requires c κs = search needs

@@ -1,12 +1,12 @@
--- `walk::advance` meets its contract.
+-- `walking::advance` meets its contract.
 -- Assumes nothing.
 use native.Mathlib.Omega.{arith}
 use Rattle.reader.specs.Window.{windowOf}
 use Rattle.walk.proofs.Held.{put-started}
 use Rattle.walk.proofs.Cases.{moved-more, moved-done}
 use borrow.Author.Needs.{needs}
-use Rattle.walk.proofs.advance.Statement.{statement}
-use Rattle.walk.proofs.advance.Tie as tie
+use Rattle.walking.proofs.advance.Statement.{statement}
+use Rattle.walking.proofs.advance.Tie as tie
 
 size-at-requires : tie.Need-size-at-requires
 size-at-requires c κs = search needs

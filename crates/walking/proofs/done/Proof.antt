@@ -1,11 +1,11 @@
--- `walk::done` meets its contract.
+-- `walking::done` meets its contract.
 -- Assumes nothing.
 use native.Mathlib.Omega.{arith}
 use Rattle.walk.specs.Walk.{doneOf}
 use Rattle.walk.proofs.Cases.{count-one}
 use borrow.Author.Needs.{needs}
-use Rattle.walk.proofs.done.Statement.{statement}
-use Rattle.walk.proofs.done.Tie as tie
+use Rattle.walking.proofs.done.Statement.{statement}
+use Rattle.walking.proofs.done.Tie as tie
 
 count-requires : tie.Need-count-requires
 count-requires c κs = search needs

@@ -1,9 +1,9 @@
--- `walk::join` meets its contract.
+-- `walking::join` meets its contract.
 -- Assumes nothing.
 use borrow.Author.Tests.{eq-eqb, ne-eqb}
 use borrow.Author.Needs.{needs}
-use Rattle.walk.proofs.join.Statement.{statement}
-use Rattle.walk.proofs.join.Tie as tie
+use Rattle.walking.proofs.join.Statement.{statement}
+use Rattle.walking.proofs.join.Tie as tie
 
 returns : tie.Need-returns
 returns c = rw (eq-eqb _ 0 (c .if1 .taken))
