@@ -22,7 +22,7 @@ use Rattle.stream_laws.specs.Ends.{stops}
 use Rattle.stream_laws.proofs.Steps.{31-next, 30-next, 33-next, Next, no-next, message, wants, marked-next, next-is, 31-room, 30-room, 34-room, 33-room, front, there, Room, no-room, made, room-is, 30-told, 32-told, 33-told, Told, no-told, came, nothing, marked-told, told-is}
 use Rattle.stream_laws.proofs.Calls.{next-waits}
 use Rattle.stream_laws.proofs.Reads52.{short}
-use Rattle.heard.specs.Heard.{Heard, before, ends, cutOf, heardOf}
+use Rattle.heard.specs.Heard.{Heard, before, ends, stopAt, heardOf}
 use Rattle.heard.specs.Runs.{Cutting, Read, roomed, toldAt, Stopped, by-next, by-room, by-told, Fits}
 use Rattle.heard.proofs.Inputs.{heard-cut, heard-bad}
 use Rattle.heard.proofs.Windows.{length-window, room-same}
@@ -71,13 +71,13 @@ room-ends input s b r ms _ (made (there p a)) e g q = let z : _≡_ {A = ℕ} 0 
 -- ---- told stops
 
 -- a window with a byte in it is cut inside a message
-cut-inside : (w : List ℕ) → 0 < length w → cutOf w ≡ Refused 10 0
+cut-inside : (w : List ℕ) → 0 < length w → stopAt w ≡ Refused 10 0
 cut-inside [] h = absurd (omega arith)
 cut-inside (x ∷ w) h = refl
 
 -- nothing came, and nothing was left
 at-end : (input : List ℕ) (s : Stream) (b r : List ℕ) (ms : List Record) (a : Answer) → windowOf (windowAt s b) ≡ Incomplete → r ≡ []
-    → cutOf (windowAt s b) ≡ a → Holds input 1 s b r ms → Ends input ms a
+    → stopAt (windowAt s b) ≡ a → Holds input 1 s b r ms → Ends input ms a
 at-end input s b r ms a w z d q =
     let v = windowAt s b in
     let i : v ++ r ≡ v = ap (λ (x : List ℕ). v ++ x) z ∙ append-nil v in

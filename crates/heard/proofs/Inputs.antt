@@ -14,7 +14,7 @@ use Rattle.reader.specs.declared.Window.the-variants.{Message as Accepted, Inco
 use Rattle.laws.proofs.Answers.{covers}
 use Rattle.laws.proofs.Numbers.{number-low}
 use Rattle.stream.specs.declared.Answer.the-variants.{Refused}
-use Rattle.heard.specs.Heard.{Heard, before, ends, cutOf, heardBy, heardAt, heardOf, Stop, nothing, bad, inside}
+use Rattle.heard.specs.Heard.{Heard, before, ends, stopAt, heardBy, heardAt, heardOf, Stop, nothing, bad, inside}
 
 -- a message has a byte at least, and no more than there are
 pub some : (s : List ℕ) (m : Record) (n : ℕ) → windowOf s ≡ Accepted m n → (0 < n) × (n ≤ length s)
@@ -52,7 +52,7 @@ heard-message s m n e =
     by-as (length s) s (Accepted m n) e (omega arith)
     ∙ ap (before (m ∷ [])) (same (length s) (length (drop n s)) (drop n s) (omega (arith, length-drop n s)) (omega arith))
 
-pub heard-cut : (s : List ℕ) → windowOf s ≡ Incomplete → heardOf s ≡ ends (cutOf s)
+pub heard-cut : (s : List ℕ) → windowOf s ≡ Incomplete → heardOf s ≡ ends (stopAt s)
 heard-cut s e = by-as (length s) s Incomplete e (omega arith)
 
 pub heard-bad : (s : List ℕ) (n p : ℕ) → windowOf s ≡ Bad n p → heardOf s ≡ ends (Refused n p)
@@ -60,7 +60,7 @@ heard-bad s n p e = by-as (length s) s (Bad n p) e (omega arith)
 
 -- ---- the stop
 
-cut-stop : (s : List ℕ) → Stop (cutOf s)
+cut-stop : (s : List ℕ) → Stop (stopAt s)
 cut-stop [] = nothing
 cut-stop (x ∷ s) = inside
 

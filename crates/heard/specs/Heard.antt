@@ -23,19 +23,19 @@ abbrev pub ends : Answer → Heard
 ends a = record { messages = []; stop = a }
 
 -- the input ended where s is left of it: nothing more behind a whole message, 10 inside one
-abbrev pub cutOf : List ℕ → Answer
-cutOf [] = Nothing
-cutOf (x ∷ s) = Refused 10 0
+abbrev pub stopAt : List ℕ → Answer
+stopAt [] = Nothing
+stopAt (x ∷ s) = Refused 10 0
 
 -- by the reader's answer to all that is left: a message is taken and its bytes dropped, a refusal ends, and so does the input's end
 abbrev pub heardBy : List ℕ → Window → (ℕ → Heard) → Heard
 heardBy s (Accepted m n) go = before (m ∷ []) (go n)
-heardBy s Incomplete go = ends (cutOf s)
+heardBy s Incomplete go = ends (stopAt s)
 heardBy s (Bad n p) go = ends (Refused n p)
 
 -- at most k messages are looked for
 unfoldable pub heardAt : ℕ → List ℕ → Heard
-heardAt zero s = ends (cutOf s)
+heardAt zero s = ends (stopAt s)
 heardAt (suc k) s = heardBy s (windowOf s) (λ n. heardAt k (drop n s))
 
 -- a message has a byte at least, so there are no more messages than bytes

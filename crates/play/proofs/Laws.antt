@@ -13,7 +13,7 @@ use Rattle.stream_laws.proofs.Calls.{told-came}
 use Rattle.stream.specs.Next.{nextOf}
 use Rattle.stream.specs.Told.{toldOf}
 use Rattle.stream.specs.Room.{roomOf, roomBuffer}
-use Rattle.play.specs.Play.{pieceOf, filled, Goes, halt, onWants, onReady, feedBy, fetchBy, tryBy, tries, tryOf, fetchOf}
+use Rattle.play.specs.Play.{portionOf, filled, Goes, halt, onWants, onReady, feedBy, fetchBy, tryBy, tries, tryOf, fetchOf}
 
 -- where the answer is the one waited for
 pub goes-wants : (g : Goes) (s : Stream) {a : Answer} (b : List ℕ) (at : ℕ) → a ≡ Wants → onWants g s a b at ≡ g s b at
@@ -64,7 +64,7 @@ Same by =
 same-feed : Same feedBy
 unfolding feedBy
 same-feed src w g h s b at le same =
-    let k = pieceOf (length b - s .end) (length src - at) w in
+    let k = portionOf (length b - s .end) (length src - at) w in
     same-ready g h _ _ _ _ (λ e. same _ _ (at + k) (more k (told-came s k e .some)) (fits k (omega arith)))
   where
     more : (k : ℕ) → 0 < k → at < at + k
@@ -126,7 +126,7 @@ module _ (src : List ℕ) (w : ℕ) (s : Stream) (b : List ℕ) (at : ℕ) where
   room-halts r b₁ e f no-room = sym (halts-ready (feedBy src w left) (r .state) (r .answer) b₁ at no-room) ∙ roomed r b₁ e f
 
   module _ (r : Step) (b₁ : List ℕ) (er : r ≡ roomOf s (length b)) (eb : b₁ ≡ roomBuffer s b) (ready : r .answer ≡ Ready)
-      (n : ℕ) (b₂ : List ℕ) (t : Step) (en : n ≡ pieceOf (length b₁ - r .state .end) (length src - at) w)
+      (n : ℕ) (b₂ : List ℕ) (t : Step) (en : n ≡ portionOf (length b₁ - r .state .end) (length src - at) w)
       (ef : b₂ ≡ take (r .state .end) b₁ ++ filled (drop (r .state .end) b₁) n (drop at src)) (et : t ≡ toldOf (r .state) n) where
     told : onReady left (t .state) (t .answer) b₂ (at + n) ≡ fetchOf src w s b at
     unfolding feedBy

@@ -15,8 +15,8 @@ use Rattle.stream.specs.Room.{roomOf, roomBuffer}
 use Rattle.play.specs.declared.Played.{Played}
 
 -- how many bytes of a piece: at most the room, the width and the unread bytes
-abbrev pub pieceOf : ℕ → ℕ → ℕ → ℕ
-pieceOf room unread width = min room (min width unread)
+abbrev pub portionOf : ℕ → ℕ → ℕ → ℕ
+portionOf room unread width = min room (min width unread)
 
 -- the front n bytes of s at the front of a part, the rest as it was
 abbrev pub filled : List ℕ → ℕ → List ℕ → List ℕ
@@ -53,7 +53,7 @@ onReady g s (Refused n p) b at = halt s (Refused n p) b at
 -- room is there: a piece goes into the free part, and is told
 unfoldable pub feedBy : List ℕ → ℕ → Goes → Goes
 feedBy src w g s b at =
-    let k = pieceOf (length b - s .end) (length src - at) w in
+    let k = portionOf (length b - s .end) (length src - at) w in
     onReady g (toldOf s k .state) (toldOf s k .answer) (take (s .end) b ++ filled (drop (s .end) b) k (drop at src)) (at + k)
 
 unfoldable pub fetchBy : List ℕ → ℕ → Goes → Goes

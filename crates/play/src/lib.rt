@@ -3,7 +3,7 @@ ghost use mathlib.Core.Path.{_≡_};
 ghost use mathlib.Core.List.{_++_};
 ghost use Prim.Native.Nat.{_+_, _-_, _≤_};
 ghost use lib.ListN.{length, take, drop};
-ghost use Rattle.play.specs.Play.{pieceOf, filled, tryOf, fetchOf, playOf};
+ghost use Rattle.play.specs.Play.{portionOf, filled, tryOf, fetchOf, playOf};
 use stream::Answer;
 use stream::Stream;
 
@@ -16,7 +16,7 @@ pub struct Played {
 
 // How many bytes of a piece: at most the room, the width and the unread bytes.
 fn piece(room: usize, unread: usize, width: usize) -> usize
-    ensures { λ r. ⌜ r ≡ pieceOf room unread width ⌝ }
+    ensures { λ r. ⌜ r ≡ portionOf room unread width ⌝ }
 {
     if width < unread {
         if room < width { room } else { width }
@@ -42,8 +42,8 @@ fn copy_in(free: &mut [u8], src: &[u8], at: usize, n: usize)
 // The free part of the buffer, from end onward, is lent out to be filled. Answers how many bytes came.
 fn fill(buf: &mut [u8], end: usize, src: &[u8], at: usize, width: usize) -> usize
     requires { ⌜ (end ≤ length (now buf)) × (at ≤ length (now src)) ⌝ }
-    ensures { λ r. ⌜ (r ≡ pieceOf (length (now (buf .entry)) - end) (length (now (src .entry)) - at) width)
-        × (now (buf .exit) ≡ take end (now (buf .entry)) ++ filled (drop end (now (buf .entry))) r (drop at (now (src .entry)))) ⌝ }
+    ensures { λ r. ⌜ r ≡ portionOf (length (now (buf .entry)) - end) (length (now (src .entry)) - at) width ⌝ }
+    ensures { λ r. ⌜ now (buf .exit) ≡ take end (now (buf .entry)) ++ filled (drop end (now (buf .entry))) r (drop at (now (src .entry))) ⌝ }
 {
     let n = piece(buf.len() - end, src.len() - at, width);
     copy_in(&mut buf[end..], src, at, n);
@@ -53,8 +53,8 @@ fn fill(buf: &mut [u8], end: usize, src: &[u8], at: usize, width: usize) -> usiz
 // Tries the window; where it wants bytes, fetches.
 fn try_window(s: Stream, buf: &mut [u8], src: &[u8], at: usize, width: usize) -> Played
     requires { ⌜ at ≤ length (now src) ⌝ }
-    ensures { λ r. ⌜ (r ≡ tryOf (now (src .entry)) width s (now (buf .entry)) at .played)
-        × (now (buf .exit) ≡ tryOf (now (src .entry)) width s (now (buf .entry)) at .buffer) ⌝ }
+    ensures { λ r. ⌜ r ≡ tryOf (now (src .entry)) width s (now (buf .entry)) at .played ⌝ }
+    ensures { λ _. ⌜ now (buf .exit) ≡ tryOf (now (src .entry)) width s (now (buf .entry)) at .buffer ⌝ }
 {
     let step = stream::next_of(s, &buf[..]);
     let state = step.state;
@@ -68,8 +68,8 @@ fn try_window(s: Stream, buf: &mut [u8], src: &[u8], at: usize, width: usize) ->
 // Makes room, hands the free part on to be filled, tells how many bytes came, and tries again.
 fn fetch(s: Stream, buf: &mut [u8], src: &[u8], at: usize, width: usize) -> Played
     requires { ⌜ at ≤ length (now src) ⌝ }
-    ensures { λ r. ⌜ (r ≡ fetchOf (now (src .entry)) width s (now (buf .entry)) at .played)
-        × (now (buf .exit) ≡ fetchOf (now (src .entry)) width s (now (buf .entry)) at .buffer) ⌝ }
+    ensures { λ r. ⌜ r ≡ fetchOf (now (src .entry)) width s (now (buf .entry)) at .played ⌝ }
+    ensures { λ _. ⌜ now (buf .exit) ≡ fetchOf (now (src .entry)) width s (now (buf .entry)) at .buffer ⌝ }
 {
     let step = stream::make_room_of(s, buf);
     let state = step.state;
@@ -104,10 +104,11 @@ fn stopped(s: Stream, at: usize, number: u8) -> Played
     }
 }
 
-// 31, 30 (also for a position past the slice), 35; then to the first answer that does not want bytes. The position moves on by what was fetched.
+// Reads on in the slice `src` from position `at`, in pieces of `width` bytes, to the first answer that does not want bytes: a message, nothing more or a
+// refusal. The position moves on by what was fetched. First come 31, 30 (also for a position past the slice) and 35.
 pub fn play(s: Stream, buf: &mut [u8], src: &[u8], at: usize, width: usize) -> Played
-    ensures { λ r. ⌜ (r ≡ playOf (now (src .entry)) width s (now (buf .entry)) at .played)
-        × (now (buf .exit) ≡ playOf (now (src .entry)) width s (now (buf .entry)) at .buffer) ⌝ }
+    ensures { λ r. ⌜ r ≡ playOf (now (src .entry)) width s (now (buf .entry)) at .played ⌝ }
+    ensures { λ _. ⌜ now (buf .exit) ≡ playOf (now (src .entry)) width s (now (buf .entry)) at .buffer ⌝ }
 {
     let start = s.start;
     let end = s.end;
