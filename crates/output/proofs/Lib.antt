@@ -1,2 +1,3 @@
 pub mod Runs
 pub mod Printed
+pub mod One

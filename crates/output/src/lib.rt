@@ -1,1 +1,2 @@
-// What calls of `lines::walk_block` put into buffers, taken together, is the text of the walk of the whole input. Laws alone.
+// That what `frames` hands to the write calls is the text of the walk, and that no contract allows two answers: no code, but the statements (specs/) and their
+// proofs (proofs/).

@@ -19,7 +19,7 @@ use Rattle.reader.specs.declared.Window.the-variants.{Message as Accepted}
 use Rattle.reader.specs.Window.{messageValues, windowOf}
 use Rattle.reader.proofs.Back.{exactly}
 use Rattle.writer.specs.declared.Written.the-variants.{Done, Refused}
-use Rattle.writer.specs.Writing.{tagOf, fieldsOf, textsOf, intraday, headOf, encode, writtenOf, after, Fits}
+use Rattle.writer.specs.Writing.{tagOf, fieldsOf, textsOf, intraday, headOf, encode, writtenOf, bufferAfter, FieldsFit}
 use Rattle.writer.proofs.Says.{body-size}
 use Rattle.trips.proofs.Fields.{reads-write}
 use Rattle.trips.proofs.Legal.{codes, whole}
@@ -100,9 +100,9 @@ module _ (m : Message) (n : ℕ) (a : Accepts m n) (h : Sized header (headOf m))
       ap (λ x. read header x 0 [] (message x)) e ∙ g ∙ k ∙ u ∙ r ∙ ap (λ x. accepted x (13 + widths (layout t))) w ∙ ap (accepted (v ++ values (m .body))) o
 
 -- reading what was written gives the record, and consumes 2 + size: the written bytes
-pub read-back : (m : Message) (s : List ℕ) (n : ℕ) → writtenOf m (length s) ≡ Done n → Fits (Done n) m
-    → (windowOf (after (Done n) m s) ≡ Accepted m n) × (n ≡ 2 + sizeOf (m .tag))
-unfolding after Fits
+pub read-back : (m : Message) (s : List ℕ) (n : ℕ) → writtenOf m (length s) ≡ Done n → FieldsFit (Done n) m
+    → (windowOf (bufferAfter (Done n) m s) ≡ Accepted m n) × (n ≡ 2 + sizeOf (m .tag))
+unfolding bufferAfter FieldsFit
 read-back m s n e f =
     let a = accepts m (length s) n e in
     (sym (exactly (encode m ++ drop n s) (Accepted m n) (sym (window-encode m n a (f .0) (f .1) (drop n s)))), sym (a .size))

@@ -1,5 +1,6 @@
 pub mod Fields
 pub mod Legal
 pub mod Back
-pub mod Again
+pub mod Rewritten
 pub mod Calls
+pub mod Outcomes

@@ -10,5 +10,5 @@ use Rattle.format.specs.Rows.{sizeOf}
 use Rattle.records.specs.declared.Message.{Message}
 
 -- none of them holds of the bytes s, which were read as m: the length is the size, H's reserved byte is a space, the ETP flag is not M
-abbrev pub Plain : List ℕ → Message → Type 0
-Plain s m = (be (part s 0 2) ≡ sizeOf (m .tag)) × (m .tag ≡ 'H' → getD s 22 0 ≡ '␣') × (m .tag ≡ 'R' → getD s 35 0 ≡ 'M' → ⊥)
+abbrev pub Regular : List ℕ → Message → Type 0
+Regular s m = (be (part s 0 2) ≡ sizeOf (m .tag)) × (m .tag ≡ 'H' → getD s 22 0 ≡ '␣') × (m .tag ≡ 'R' → getD s 35 0 ≡ 'M' → ⊥)

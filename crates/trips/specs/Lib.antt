@@ -1,1 +1,3 @@
 pub mod Exceptions
+pub mod Trips
+pub mod Outcomes

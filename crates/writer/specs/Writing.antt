@@ -66,11 +66,11 @@ writtenOf m room =
     (Refused 40)
 
 -- the buffer after an answer: the message in front, and later bytes stay; as it was, after a refusal
-unfoldable pub after : Written → Message → List ℕ → List ℕ
-after (Done n) m s = encode m ++ drop n s
-after (Refused k) m s = s
+unfoldable pub bufferAfter : Written → Message → List ℕ → List ℕ
+bufferAfter (Done n) m s = encode m ++ drop n s
+bufferAfter (Refused k) m s = s
 
 -- what the types say of a message that is written: each value fits its field
-unfoldable pub Fits : Written → Message → Type 0
-Fits (Done n) m = Sized header (headOf m) × Sized (layout (tagOf (m .body))) (fieldsOf (m .body))
-Fits (Refused k) m = Unit {0}
+unfoldable pub FieldsFit : Written → Message → Type 0
+FieldsFit (Done n) m = Sized header (headOf m) × Sized (layout (tagOf (m .body))) (fieldsOf (m .body))
+FieldsFit (Refused k) m = Unit {0}

@@ -11,7 +11,7 @@ ghost use Rattle.codes.specs.Names.{crossByte};
 ghost use lib.Dec.{eqb};
 ghost use Rattle.pen.specs.Encode.{PutRow, PutBody};
 ghost use Rattle.records.specs.Values.{values};
-ghost use Rattle.writer.specs.Writing.{checkedOf, mpidTag, mpidFine, writtenOf, after, Fits};
+ghost use Rattle.writer.specs.Writing.{checkedOf, mpidTag, mpidFine, writtenOf, bufferAfter, FieldsFit};
 use codes::CrossType;
 use records::Body;
 use records::Message;
@@ -288,8 +288,11 @@ fn put_body(buf: &mut [u8], b: Body)
     }
 }
 
+// Puts the record at the front of the buffer and answers how many bytes it took, or refuses and leaves the buffer as it was.
 pub fn write(m: Message, buf: &mut [u8]) -> Written
-    ensures { λ r. ⌜ (r ≡ writtenOf m (length (now (buf .entry)))) × (now (buf .exit) ≡ after r m (now (buf .entry))) × Fits r m ⌝ }
+    ensures { λ r. ⌜ r ≡ writtenOf m (length (now (buf .entry))) ⌝ }
+    ensures { λ r. ⌜ now (buf .exit) ≡ bufferAfter r m (now (buf .entry)) ⌝ }
+    ensures { λ r. ⌜ FieldsFit r m ⌝ }
 {
     let tag = m.tag;
     let time = m.timestamp;

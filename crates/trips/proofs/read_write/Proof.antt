@@ -1,10 +1,12 @@
 -- `trips::read_write` meets its contract.
 -- Assumes nothing.
 use denote.Ref.{now}
-use mathlib.Core.Path.{_≡_}
+use mathlib.Core.Path.{_≡_, refl}
 use Prim.Native.Nat.{ℕ}
 use native.Mathlib.Omega.{arith}
-use Rattle.trips.proofs.Calls.{read-then-write, no-message}
+use Rattle.reader.specs.declared.Window.the-variants.{Incomplete, Refused}
+use Rattle.trips.specs.declared.Again.the-variants.{NotThere, NotRead}
+use Rattle.trips.proofs.Calls.{read-then-write, read-no-more}
 use borrow.Author.Needs.{needs}
 use Rattle.trips.proofs.read_write.Statement.{statement}
 use Rattle.trips.proofs.read_write.Tie as tie
@@ -21,8 +23,8 @@ write-requires c κs = search needs
 enum-told : tie.Need-enum-told
 enum-told c = search needs
 
-enum-told-2 : tie.Need-enum-told-2
-enum-told-2 c = search needs
+enum-known-w-2 : tie.Need-enum-known-w-2
+enum-known-w-2 c = search needs
 
 same-length : tie.Need-same-length
 same-length c = search needs
@@ -33,22 +35,28 @@ returns c =
     let p = c .before .before .before .before .before .before .before in
     let a = p .before .before .before .args in
     let w = c .before .before .write .ensures in
-    read-then-write (now (a .s)) (now (a .buf)) (p .parse-message .result) (q .0 .0) (q .0 .1 .0) (λ i. p .before .before .shared-slice-known .given i .fits)
-    (p .parse-message .ensures) (q .1) (w .0) (w .1)
+    let r = read-then-write (now (a .s)) (now (a .buf)) (p .parse-message .result) (q .0 .0) (q .0 .1 .0) (λ i. p .before .before .shared-slice-known .given i .fits)
+    (p .parse-message .ensures) (q .1) (w .0) (w .1 .0) in
+    (r .0, (r .1, r .2))
 
 returns-2 : tie.Need-returns-2
 returns-2 c =
     let p = c .before .before in
-    λ m n e l f.
-    absurd (no-message (now (p .before .before .before .args .s)) (p .parse-message .result) m n (p .parse-message .ensures) e
-    (λ q. let z : _≡_ {A = ℕ} 0 1 = cc in omega arith))
+    let a = p .before .before .before .args in
+    let r = read-no-more (now (a .s)) (now (a .buf)) (p .parse-message .result) Incomplete NotThere (p .parse-message .ensures) (c .enum-told .given .1)
+    refl refl (λ m n q. let z : _≡_ {A = ℕ} 0 1 = cc in omega arith) in
+    (r .0, (r .1, r .2))
 
 returns-3 : tie.Need-returns-3
 returns-3 c =
-    let p = c .before .before in
-    λ m n e l f.
-    absurd (no-message (now (p .before .before .before .args .s)) (p .parse-message .result) m n (p .parse-message .ensures) e
-    (λ q. let z : _≡_ {A = ℕ} 0 1 = cc (c .enum-told2 .given .1) in omega arith))
+    let q = c .before .w2 .given in
+    let p = c .before .before .before in
+    let a = p .before .before .before .args in
+    let n = q .0 .0 in
+    let i = q .0 .1 .0 in
+    let r = read-no-more (now (a .s)) (now (a .buf)) (p .parse-message .result) (Refused n i) (NotRead n i) (p .parse-message .ensures) (q .1)
+    refl refl (λ m n q. let z : _≡_ {A = ℕ} 0 1 = cc in omega arith) in
+    (r .0, (r .1, r .2))
 
 pub read-write-spec : {M : Type 1} → statement M
 read-write-spec =
@@ -58,7 +66,7 @@ read-write-spec =
     enum-known-w
     write-requires
     enum-told
-    enum-told-2
+    enum-known-w-2
     same-length
     returns
     returns-2

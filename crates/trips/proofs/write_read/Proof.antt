@@ -19,7 +19,9 @@ returns : tie.Need-returns
 returns c =
     let p = c .before .before .before .before in
     let a = p .before .before .before .args in
-    write-then-read (a .m) (now (a .buf)) (p .write .ensures .0) (p .write .ensures .1) (p .write .ensures .2) (c .parse-message .ensures)
+    let w = p .write .ensures in
+    let r = write-then-read (a .m) (now (a .buf)) (w .0) (w .1 .0) (w .1 .1) (c .parse-message .ensures) in
+    (r .0, (r .1, r .2))
 
 pub write-read-spec : {M : Type 1} → statement M
 write-read-spec = tie.close (tie.spec write-requires parse-message-requires same-length returns)

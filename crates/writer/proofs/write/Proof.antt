@@ -11,7 +11,7 @@ use borrow.Author.Tests.{leb-true, leb-false, not-true, not-false}
 use Rattle.format.specs.Rows.{sizeOf, header}
 use Rattle.pen.specs.Encode.{Sized, putRow}
 use Rattle.writer.specs.declared.Written.the-variants.{Done}
-use Rattle.writer.specs.Writing.{tagOf, headOf, encode, after, Fits}
+use Rattle.writer.specs.Writing.{tagOf, headOf, encode, bufferAfter, FieldsFit}
 use Rattle.writer.proofs.Says.{told-tag, told-texts, told-intraday, says40, says41, says42, says43, says44, says-done, all-put}
 use borrow.Author.Needs.{needs}
 use Rattle.writer.proofs.write.Statement.{statement}
@@ -21,20 +21,20 @@ check-body-requires : tie.Need-check-body-requires
 check-body-requires c κs = search needs
 
 returns : tie.Need-returns
-unfolding after Fits
+unfolding bufferAfter FieldsFit
 returns c =
     let a = c .before .before .before .before .args in
-    (says40 (a .m) (length (now (a .buf))) (λ e. c .if1 .taken (e ∙ sym (told-tag (a .m .body) (c .before .before .check-body .ensures)))), refl, tt)
+    (says40 (a .m) (length (now (a .buf))) (λ e. c .if1 .taken (e ∙ sym (told-tag (a .m .body) (c .before .before .check-body .ensures)))), (refl, tt))
 
 returns-2 : tie.Need-returns-2
-unfolding after Fits
+unfolding bufferAfter FieldsFit
 returns-2 c =
     let p = c .before .before .before .before in
     let a = p .before .before .args in
-    (says41 (a .m) (length (now (a .buf))) (c .before .before .if1 .left ∙ told-tag (a .m .body) (p .check-body .ensures)) (leb-true _ _ (c .if2 .taken)), refl, tt)
+    (says41 (a .m) (length (now (a .buf))) (c .before .before .if1 .left ∙ told-tag (a .m .body) (p .check-body .ensures)) (leb-true _ _ (c .if2 .taken)), (refl, tt))
 
 returns-3 : tie.Need-returns-3
-unfolding after Fits
+unfolding bufferAfter FieldsFit
 returns-3 c =
     let p = c .before .before .before .before .before in
     let a = p .before .before .args in
@@ -42,12 +42,11 @@ returns-3 c =
     let k = p .check-body .ensures in (
       says42 (a .m) (length (now (a .buf))) (c .before .before .before .if1 .left ∙ told-tag b k) (leb-false _ _ (c .before .if2 .left))
           (told-texts b k false (not-true _ (c .if3 .taken))),
-      refl,
-      tt,
+      (refl, tt),
     )
 
 returns-4 : tie.Need-returns-4
-unfolding after Fits
+unfolding bufferAfter FieldsFit
 returns-4 c =
     let p = c .before .before .before .before .before .before in
     let a = p .before .before .args in
@@ -55,8 +54,7 @@ returns-4 c =
     let k = p .check-body .ensures in (
       says43 (a .m) (length (now (a .buf))) (c .before .before .before .before .if1 .left ∙ told-tag b k) (leb-false _ _ (c .before .before .if2 .left))
           (told-texts b k true (not-false _ (c .before .if3 .left))) (told-intraday b k true (c .if4 .taken)),
-      refl,
-      tt,
+      (refl, tt),
     )
 
 size-of-tag-requires : tie.Need-size-of-tag-requires
@@ -69,7 +67,7 @@ add-n : tie.Need-add-n
 add-n c = search needs
 
 returns-5 : tie.Need-returns-5
-unfolding after Fits
+unfolding bufferAfter FieldsFit
 returns-5 c =
     let q = c .before .before in
     let p = q .before .before .before .before .before .before in
@@ -78,8 +76,7 @@ returns-5 c =
     let k = p .check-body .ensures in (
       says44 (a .m) (length (now (a .buf))) (q .before .before .before .before .if1 .left ∙ told-tag b k) (leb-false _ _ (q .before .before .if2 .left))
           (told-texts b k true (not-false _ (q .before .if3 .left))) (told-intraday b k false (q .if4 .left)) (omega (arith, c .before .size-of-tag .ensures)),
-      refl,
-      tt,
+      (refl, tt),
     )
 
 put-header-requires : tie.Need-put-header-requires
@@ -92,7 +89,7 @@ same-length : tie.Need-same-length
 same-length c = search needs
 
 returns-6 : tie.Need-returns-6
-unfolding after Fits
+unfolding bufferAfter FieldsFit
 returns-6 c =
     let r = c .before .before .before .before .before .before .before .before .before .size-of-tag in
     let q = c .before .before .before .before .before .before .before .before .before .before in
@@ -107,9 +104,11 @@ returns-6 c =
       ap Done n
           ∙ says-done m (length s) t (leb-false _ _ (q .before .before .if2 .left)) (told-texts (m .body) k true (not-false _ (q .before .if3 .left)))
           (told-intraday (m .body) k false (q .if4 .left)) l,
-      all-put m s t l (h .0 ∙ ap (λ k. putRow s 0 header (k ∷ drop 1 (headOf m))) (r .ensures)) (c .before .before .put-body .ensures .0)
-          ∙ ap (λ k. encode m ++ drop k s) (sym n),
-      (subst (λ k. Sized header (k ∷ drop 1 (headOf m))) (r .ensures) (h .1), c .before .before .put-body .ensures .1),
+      (
+        all-put m s t l (h .0 ∙ ap (λ k. putRow s 0 header (k ∷ drop 1 (headOf m))) (r .ensures)) (c .before .before .put-body .ensures .0)
+            ∙ ap (λ k. encode m ++ drop k s) (sym n),
+        (subst (λ k. Sized header (k ∷ drop 1 (headOf m))) (r .ensures) (h .1), c .before .before .put-body .ensures .1),
+      ),
     )
 
 pub write-spec : {M : Type 1} → statement M

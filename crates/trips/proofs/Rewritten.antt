@@ -31,9 +31,9 @@ use Rattle.records.specs.Values.{orderValues, values}
 use Rattle.reader.specs.declared.Window.the-variants.{Message as Accepted}
 use Rattle.reader.specs.Window.{messageValues, windowM}
 use Rattle.writer.specs.declared.Written.the-variants.{Done}
-use Rattle.writer.specs.Writing.{tagOf, fieldsOf, textsOf, headOf, encode, writtenOf, after}
+use Rattle.writer.specs.Writing.{tagOf, fieldsOf, textsOf, headOf, encode, writtenOf, bufferAfter}
 use Rattle.writer.proofs.Says.{body-size, says-done}
-use Rattle.trips.specs.Exceptions.{Plain}
+use Rattle.trips.specs.Exceptions.{Regular}
 use Rattle.trips.proofs.Fields.{tidy, tidyRow, digits-be, took-row, parts, parts-row}
 use Rattle.trips.proofs.Legal.{no-intraday}
 
@@ -153,8 +153,8 @@ flag-tidy s at l q = ap (λ x. cond (eqb x 'M') ('Y' ∷ []) (part s at 1)) (be-
 
 -- writing what was read gives the consumed bytes, and later bytes stay, unless the length differed, H's reserved byte was no space or ETP was M
 pub written-back : (s : List ℕ) (m : Message) (n : ℕ) (t : List ℕ) → Bytes s → windowM (Accepted m n) ≡ window s → n ≤ length t
-    → Plain s m → (writtenOf m (length t) ≡ Done n) × (after (Done n) m t ≡ take n s ++ drop n t)
-unfolding after sizeOf
+    → Regular s m → (writtenOf m (length t) ≡ Done n) × (bufferAfter (Done n) m t ≡ take n s ++ drop n t)
+unfolding bufferAfter sizeOf
 written-back s m n t b e l f =
     let o = opened s m n (sym e) in
     let c = window-covers s (messageValues m) n (sym e) in

@@ -1,0 +1,39 @@
+-- What writing and then reading, and reading and then writing, come to; and both round trips.
+-- Assumes nothing.
+use Prim.Native.Nat.{ℕ, _≤_}
+use mathlib.Core.Path.{_≡_}
+use mathlib.Core.List.{List, _++_}
+use lib.ListN.{length, take, drop}
+use Rattle.records.specs.declared.Message.{Message}
+use Rattle.reader.specs.declared.Window.{Window}
+use Rattle.reader.specs.declared.Window.the-variants.{Message as Accepted, Incomplete, Refused}
+use Rattle.reader.specs.Window.{windowOf}
+use Rattle.writer.specs.declared.Written.the-variants.{Done}
+use Rattle.writer.specs.Writing.{writtenOf, bufferAfter}
+use Rattle.trips.specs.declared.Again.{Again}
+use Rattle.trips.specs.declared.Again.the-variants.{Wrote, NotThere, NotRead}
+use Rattle.trips.specs.Exceptions.{Regular}
+
+-- the buffer behind a write
+abbrev pub writtenIn : Message → List ℕ → List ℕ
+writtenIn m t = bufferAfter (writtenOf m (length t)) m t
+
+-- writing what reading answered, into a buffer t: a message is written; of any other answer that is said
+abbrev pub againOf : Window → List ℕ → Again
+againOf (Accepted m n) t = Wrote (writtenOf m (length t))
+againOf Incomplete t = NotThere
+againOf (Refused n p) t = NotRead n p
+
+abbrev pub againIn : Window → List ℕ → List ℕ
+againIn (Accepted m n) t = writtenIn m t
+againIn Incomplete t = t
+againIn (Refused n p) t = t
+
+-- the record m, where it was written into t, is read back by the answer r, which consumes as many bytes as were written
+abbrev pub ReadBack : Message → List ℕ → Window → Type 0
+ReadBack m t r = (n : ℕ) → writtenOf m (length t) ≡ Done n → r ≡ Accepted m n
+
+-- the bytes s, where they were read as a message and none of the exceptions holds, are written back as they were: r is the answer, u the buffer t behind it
+abbrev pub WrittenBack : List ℕ → List ℕ → Again → List ℕ → Type 0
+WrittenBack s t r u =
+    (m : Message) (n : ℕ) → windowOf s ≡ Accepted m n → n ≤ length t → Regular s m → (r ≡ Wrote (Done n)) × (u ≡ take n s ++ drop n t)
