@@ -1,10 +1,10 @@
-// Lists of cases, which play reads to a stream, failed ones too, that a run on a file cannot have. A list is cases, one behind the other. A case is
-// reads, closed by ff ff. A read is two bytes n, high byte first: 1 to 8192: the n bytes behind it are brought, as many as the free part of the buffer
-// takes, and the rest of them by the next read; 0: nothing is brought; ff fe: the read fails. No other n is one. The contracts say that all stays
-// within list and buffer; what the functions do is held by the stored run of `cases`.
-ghost use Prim.Native.Nat.{_+_, _≤_, _<_};
+// Lists of cases, which play reads to a stream, failed ones too, that a run on a file cannot have. What a list is, where a case ends and what a read
+// brings is defined in specs/Reads.antt.
+ghost use Prim.Native.Nat.{_+_, _-_, _≤_, min};
+ghost use mathlib.Core.List.{_++_};
 ghost use mathlib.Core.Path.{_≡_};
-ghost use lib.ListN.{length};
+ghost use lib.ListN.{length, take, drop};
+ghost use Rattle.reads.specs.Reads.{headOf, closes, isRead, bringsOf, caseEndOf, dueOf, failsOf, heldOf, nextOf, bytesOf, moreOf};
 
 // The heads: the case's end, a read that fails, and the most bytes that a read brings.
 const CLOSED: usize = 65535;
@@ -14,170 +14,188 @@ const FAILS: usize = 65534;
 const MOST: usize = 8192;
 
 fn wide(x: u8) -> usize
-    ensures { λ r. ⌜ r ≤ 255 ⌝ }
+    ensures { λ r. ⌜ r ≡ x ⌝ }
 {
     x as usize
 }
 
-// The head that stands at a place; at the list's end none does.
+// The head at a place.
 fn head(list: &[u8], i: usize) -> usize
-    requires { ⌜ i ≤ length (now list) ⌝ }
+    requires { ⌜ i + 2 ≤ length (now list) ⌝ }
+    ensures { λ r. ⌜ r ≡ headOf (drop i (now (list .entry))) ⌝ }
 {
-    if list.len() - i < 2 {
-        return CLOSED;
-    }
     wide(list[i]) * 256 + wide(list[i + 1])
 }
 
-// The bytes that a head is followed by.
-fn followed(n: usize) -> usize
-    ensures { λ r. ⌜ r ≤ 8192 ⌝ }
+// Whether a case's end stands at a place.
+fn closed(list: &[u8], i: usize) -> bool
+    requires { ⌜ i ≤ length (now list) ⌝ }
+    ensures { λ r. ⌜ r ≡ closes (drop i (now (list .entry))) ⌝ }
 {
-    if n <= MOST {
-        return n;
+    if list.len() - i < 2 {
+        return false;
     }
-    0
+    head(list, i) == CLOSED
 }
 
-// Behind the head at a place and its bytes.
-fn passed(list: &[u8], i: usize) -> usize
+// Whether a read stands at a place, with its bytes.
+fn is_read(list: &[u8], i: usize) -> bool
     requires { ⌜ i ≤ length (now list) ⌝ }
-    ensures { λ r. ⌜ (r ≤ length (now (list .entry))) × (i < length (now (list .entry)) → i < r) ⌝ }
+    ensures { λ r. ⌜ r ≡ isRead (drop i (now (list .entry))) ⌝ }
 {
-    let all = followed(head(list, i)) + 2;
-    if list.len() - i < all {
-        return list.len();
+    let left = list.len() - i;
+    if left < 2 {
+        return false;
     }
-    i + all
+    let n = head(list, i);
+    if n > MOST {
+        return n == FAILS;
+    }
+    n <= left - 2
 }
 
-// Whether a head stands there, with its bytes.
-fn is_whole(list: &[u8], i: usize) -> bool
-    requires { ⌜ i ≤ length (now list) ⌝ }
+// How many bytes the read at a place brings.
+fn brings(list: &[u8], i: usize) -> usize
+    requires { ⌜ i + 2 ≤ length (now list) ⌝ }
+    ensures { λ r. ⌜ r ≡ bringsOf (drop i (now (list .entry))) ⌝ }
 {
     let n = head(list, i);
     if n > MOST {
-        if n < FAILS {
-            return false;
-        }
+        return 0;
     }
-    list.len() - i >= followed(n) + 2
+    n
 }
 
-// Behind the case that begins at a place; the place itself where no whole case stands there; the list's end for a place behind it.
+// Behind the case that begins at a place; the place itself where no whole case stands there.
 pub fn case_end(list: &[u8], from: usize) -> usize
-    ensures { λ r. ⌜ r ≤ length (now (list .entry)) ⌝ }
+    ensures { λ r. ⌜ r ≡ caseEndOf (now (list .entry)) from ⌝ }
 {
     if from > list.len() {
-        return list.len();
+        return from;
     }
     let mut i = from;
-    while i < list.len() {
-        if !is_whole(list, i) {
-            return from;
-        }
-        let n = head(list, i);
-        i = passed(list, i);
-        if n == CLOSED {
-            return i;
-        }
+    while is_read(list, i) {
+        i = i + 2 + brings(list, i);
+    }
+    if closed(list, i) {
+        return i + 2;
     }
     from
 }
 
-// The place of the read that comes next; `left` bytes before it are of one that was brought in part.
+// The place of the read that comes next; the `left` bytes before it are of one that was brought in part.
 pub struct Place {
     pub i: usize,
     pub left: usize,
 }
 
-// What a read came to: how many bytes, or that it failed.
+// What a read came to: the place behind it, and how many bytes, or that it failed.
 pub struct Read {
     pub place: Place,
     pub count: usize,
     pub failed: bool,
 }
 
-// So many bytes of the list, from a place on, into the free part.
-fn copy(list: &[u8], from: usize, free: &mut [u8], n: usize)
-    requires { ⌜ (from + n ≤ length (now list)) × (n ≤ length (now free)) ⌝ }
+// The bytes that come next: the place behind them, and how many.
+fn due(list: &[u8], p: Place) -> Place
+    ensures { λ r. ⌜ r ≡ dueOf (now (list .entry)) p ⌝ }
 {
-    let mut k = 0;
-    while k < n {
-        free[k] = list[from + k];
-        k += 1;
-    }
-}
-
-// The last `left` bytes before a place are brought, as many as fit. In a list that is one they are there.
-fn brought(list: &[u8], i: usize, left: usize, free: &mut [u8]) -> Read
-    requires { ⌜ i ≤ length (now list) ⌝ }
-{
-    if left > i {
-        return Read {
-            place: Place { i, left: 0 },
-            count: 0,
-            failed: false,
-        };
-    }
-    let from = i - left;
-    if free.len() < left {
-        let k = free.len();
-        copy(list, from, free, k);
-        return Read {
-            place: Place { i, left: left - k },
-            count: k,
-            failed: false,
-        };
-    }
-    copy(list, from, free, left);
-    Read {
-        place: Place { i, left: 0 },
-        count: left,
-        failed: false,
-    }
-}
-
-// The next read of a case; where it has none left, one that brings nothing.
-pub fn next_read(list: &[u8], p: Place, free: &mut [u8]) -> Read {
     let i = p.i;
-    let left = p.left;
+    if p.left > 0 {
+        return p;
+    }
     if i > list.len() {
-        return Read {
-            place: p,
-            count: 0,
-            failed: false,
-        };
+        return p;
     }
-    if left > 0 {
-        return brought(list, i, left, free);
+    if !is_read(list, i) {
+        return p;
     }
-    let n = head(list, i);
-    if n == CLOSED {
-        return Read {
-            place: p,
-            count: 0,
-            failed: false,
-        };
+    let n = brings(list, i);
+    Place {
+        i: i + 2 + n,
+        left: n,
     }
-    let next = passed(list, i);
-    if n == FAILS {
-        return Read {
-            place: Place { i: next, left: 0 },
-            count: 0,
-            failed: true,
-        };
+}
+
+// Whether the read that comes next fails.
+fn fails(list: &[u8], p: Place) -> bool
+    ensures { λ r. ⌜ r ≡ failsOf (now (list .entry)) p ⌝ }
+{
+    let i = p.i;
+    if p.left > 0 {
+        return false;
     }
-    brought(list, next, n, free)
+    if i > list.len() {
+        return false;
+    }
+    if !is_read(list, i) {
+        return false;
+    }
+    head(list, i) == FAILS
+}
+
+// How many of the bytes before a place stand there: in a list that is one, all.
+fn held(list: &[u8], d: Place) -> usize
+    ensures { λ r. ⌜ r ≡ heldOf (now (list .entry)) d ⌝ }
+{
+    if d.left > d.i {
+        return 0;
+    }
+    if d.i > list.len() {
+        return 0;
+    }
+    d.left
+}
+
+fn least(a: usize, b: usize) -> usize
+    ensures { λ r. ⌜ r ≡ min a b ⌝ }
+{
+    if a < b { a } else { b }
+}
+
+// Brings the n bytes before a place, as many as the free part takes, and answers how many.
+fn bring(list: &[u8], i: usize, n: usize, free: &mut [u8]) -> usize
+    requires { ⌜ (n ≤ i) × (1 ≤ n → i ≤ length (now list)) ⌝ }
+    ensures { λ r. ⌜ r ≡ min n (length (now (free .entry))) ⌝ }
+    ensures { λ r. ⌜ now (free .exit) ≡ take r (drop (i - n) (now (list .entry))) ++ drop r (now (free .entry)) ⌝ }
+{
+    if n == 0 {
+        return 0;
+    }
+    let count = least(n, free.len());
+    let from = i - n;
+    let to = from + count;
+    bytes::copy(&list[from..to], free);
+    count
+}
+
+// The next read of a case, into the free part of a buffer: its bytes stand at the front then. Where the case has none left, one that brings nothing.
+pub fn next_read(list: &[u8], p: Place, free: &mut [u8]) -> Read
+    ensures { λ r. ⌜ r ≡ nextOf (now (list .entry)) p (length (now (free .entry))) ⌝ }
+    ensures { λ r. ⌜ now (free .exit) ≡ bytesOf (now (list .entry)) p (length (now (free .entry))) ++ drop (r .count) (now (free .entry)) ⌝ }
+{
+    let failed = fails(list, p);
+    let d = due(list, p);
+    let i = d.i;
+    let n = held(list, d);
+    let count = bring(list, i, n, free);
+    Read {
+        place: Place { i, left: n - count },
+        count,
+        failed,
+    }
 }
 
 // Whether a case has reads that are not brought in.
-pub fn has_more(list: &[u8], p: Place) -> bool {
+pub fn has_more(list: &[u8], p: Place) -> bool
+    ensures { λ r. ⌜ r ≡ moreOf (now (list .entry)) p ⌝ }
+{
+    let i = p.i;
     if p.left > 0 {
         return true;
     }
-    if p.i > list.len() {
+    if i > list.len() {
         return false;
     }
-    head(list, p.i) != CLOSED
+    is_read(list, i)
 }

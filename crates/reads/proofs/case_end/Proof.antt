@@ -1,47 +1,54 @@
 -- `reads::case_end` meets its contract.
 -- Assumes nothing.
-use borrow.Author.Needs.{needs}
-use lib.ListN.{length}
-use Prim.Native.Nat.{_-_, _≤_}
+use Prim.Native.Nat.{_+_, _-_}
+use mathlib.Core.Path.{_∙_, sym}
 use native.Mathlib.Omega.{arith}
+use lib.ListN.{length, drop, length-drop}
+use Rattle.reads.proofs.Laws.{read-inside, Passing, passing-none, passing-more, case-closed, case-open, case-behind}
 use Rattle.reads.proofs.case_end.Statement.{statement}
 use Rattle.reads.proofs.case_end.Tie as tie
 
 abbrev Inv-loop : tie.InvT-loop
-Inv-loop list from i₀ i = (from ≤ i) × (i ≤ length list)
+Inv-loop list from i₀ i = Passing list from i
 
 abbrev μ-loop : tie.MeasureT-loop
 μ-loop list from i₀ i = length list - i
 
 returns : tie.Need-returns Inv-loop μ-loop
-returns c = search needs
+returns c = sym (case-behind (c .before .before .args .list .now) (c .before .before .args .from) (c .if1 .taken))
 
 loop-holds : tie.Need-loop-holds Inv-loop μ-loop
-loop-holds c = search needs
+loop-holds c = passing-none (c .before .before .args .list .now) (c .before .before .args .from) (omega arith)
 
-is-whole-requires : tie.Need-is-whole-requires Inv-loop μ-loop
-is-whole-requires c κs = search needs
+is-read-requires : tie.Need-is-read-requires Inv-loop μ-loop
+is-read-requires c κs = c .loop .inv .inside
 
-returns-2 : tie.Need-returns-2 Inv-loop μ-loop
-returns-2 c = search needs
+add-i : tie.Need-add-i Inv-loop μ-loop
+add-i c = omega (arith, rw length-drop at (read-inside (drop (c .before .before .loop .i) (c .before .before .before .before .before .args .list .now)) (sym (c .before .is-read .ensures) ∙ c .if2 .taken)), c .before .before .loop .inv .inside)
 
-head-requires : tie.Need-head-requires Inv-loop μ-loop
-head-requires c κs = search needs
+brings-requires : tie.Need-brings-requires Inv-loop μ-loop
+brings-requires c κs = omega (arith, rw length-drop at (read-inside (drop (c .before .before .loop .i) (c .before .before .before .before .before .args .list .now)) (sym (c .before .is-read .ensures) ∙ c .if2 .taken)), c .before .before .loop .inv .inside)
 
-passed-requires : tie.Need-passed-requires Inv-loop μ-loop
-passed-requires c κs = search needs
-
-returns-3 : tie.Need-returns-3 Inv-loop μ-loop
-returns-3 c = c .before .passed .ensures .0
+add-i-2 : tie.Need-add-i-2 Inv-loop μ-loop
+add-i-2 c = omega (arith, rw length-drop at (read-inside (drop (c .before .before .before .loop .i) (c .before .before .before .before .before .before .args .list .now)) (sym (c .before .before .is-read .ensures) ∙ c .before .if2 .taken)), c .before .before .before .loop .inv .inside, c .brings .ensures)
 
 loop-less : tie.Need-loop-less Inv-loop μ-loop
-loop-less c = omega (arith, c .before .passed .ensures .1 (search needs))
+loop-less c = omega (arith, rw length-drop at (read-inside (drop (c .before .before .before .loop .i) (c .before .before .before .before .before .before .args .list .now)) (sym (c .before .before .is-read .ensures) ∙ c .before .if2 .taken)), c .before .before .before .loop .inv .inside, c .brings .ensures)
 
 loop-again : tie.Need-loop-again Inv-loop μ-loop
-loop-again c = (omega (arith, c .before .passed .ensures .1 (search needs)), c .before .passed .ensures .0)
+loop-again c = rw (c .brings .ensures) (passing-more (c .before .before .before .before .before .before .args .list .now) (c .before .before .before .before .before .before .args .from) (c .before .before .before .loop .i) (c .before .before .before .loop .inv) (sym (c .before .before .is-read .ensures) ∙ c .before .if2 .taken))
 
-returns-4 : tie.Need-returns-4 Inv-loop μ-loop
-returns-4 c = search needs
+closed-requires : tie.Need-closed-requires Inv-loop μ-loop
+closed-requires c κs = c .before .before .loop .inv .inside
+
+add-result : tie.Need-add-result Inv-loop μ-loop
+add-result c = omega (arith, c .before .before .before .before .loop .inv .inside)
+
+returns-2 : tie.Need-returns-2 Inv-loop μ-loop
+returns-2 c = sym (case-closed (c .before .before .before .before .before .before .before .args .list .now) (c .before .before .before .before .before .before .before .args .from) (c .before .before .before .before .loop .i) (c .before .before .before .before .loop .inv) (sym (c .before .before .before .is-read .ensures) ∙ c .before .before .if2 .left) (sym (c .before .closed .ensures) ∙ c .if3 .taken))
+
+returns-3 : tie.Need-returns-3 Inv-loop μ-loop
+returns-3 c = sym (case-open (c .before .before .before .before .before .before .before .args .list .now) (c .before .before .before .before .before .before .before .args .from) (c .before .before .before .before .loop .i) (c .before .before .before .before .loop .inv) (sym (c .before .before .before .is-read .ensures) ∙ c .before .before .if2 .left) (sym (c .before .closed .ensures) ∙ c .if3 .left))
 
 pub case-end-spec : {M : Type 1} → statement M
 case-end-spec =
@@ -51,11 +58,13 @@ case-end-spec =
     μ-loop
     returns
     loop-holds
-    is-whole-requires
-    returns-2
-    head-requires
-    passed-requires
-    returns-3
+    is-read-requires
+    add-i
+    brings-requires
+    add-i-2
     loop-less
     loop-again
-    returns-4)
+    closed-requires
+    add-result
+    returns-2
+    returns-3)
