@@ -1,7 +1,7 @@
 -- The laws of lists of cases: a read stands within its list, and a case's end too.
 -- Assumes nothing.
 use Prim.Native.Nat.{ℕ, zero, suc, _+_, _-_, _*_, _≤_, _<_, min}
-use mathlib.Core.Bool.{Bool, true, false}
+use mathlib.Core.Bool.{Bool, true, false, false≢true}
 use mathlib.Core.List.{List, []}
 use mathlib.Core.Path.{_≡_, refl, sym, ap, _∙_}
 use native.Mathlib.Nat.{add-zero}
@@ -24,8 +24,7 @@ read-inside t e = go (ltb (length t) 2) refl (ltb 8192 (headOf t)) refl
     go : (a : Bool) → ltb (length t) 2 ≡ a → (b : Bool) → ltb 8192 (headOf t) ≡ b → 2 + bringsOf t ≤ length t
     go true x b y =
         let z : _≡_ {A = Bool} false true = rw x at e in
-        let y : _≡_ {A = ℕ} 0 1 = cc in
-        absurd (omega arith)
+        absurd (false≢true z)
     go false x true y = rw y (omega (arith, ltb-false (length t) 2 x))
     go false x false y =
         let z : leb (headOf t) (length t - 2) ≡ true = rw (x, y) at e in
@@ -101,8 +100,7 @@ closes-inside t e = go (ltb (length t) 2) refl
     go : (b : Bool) → ltb (length t) 2 ≡ b → 2 ≤ length t
     go true x =
         let z : _≡_ {A = Bool} false true = rw x at e in
-        let y : _≡_ {A = ℕ} 0 1 = cc in
-        absurd (omega arith)
+        absurd (false≢true z)
     go false x = ltb-false (length t) 2 x
 
 pub case-end-inside : (list : List ℕ) (from : ℕ) → from ≤ length list → caseEndOf list from ≤ length list
