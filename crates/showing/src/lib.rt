@@ -23,7 +23,7 @@ fn header(v: &[u64], out: &mut [u8], at: usize) -> usize
     requires { ⌜ at ≤ length (now out) ⌝ }
     ensures { λ r. ⌜ r ≤ length (now (out .entry)) ⌝ }
 {
-    layouts::put(
+    templates::put(
         b"tag={1}\tstock_locate={n}\ttracking_number={n}\ttimestamp={n}\tbody={.",
         0,
         v,
@@ -32,7 +32,7 @@ fn header(v: &[u64], out: &mut [u8], at: usize) -> usize
     )
 }
 
-// The layout of a kind: that of its letter, behind the first two. There is always room, since the table and its values take less than a line is given
+// The template of a kind: that of its letter, behind the first two. There is always room, since the table and its values take less than a line is given
 // below.
 fn by_kind(kind: u64, v: &[u64], table: &[u8], starts: &[usize], out: &mut [u8], at: usize) -> usize
     requires { ⌜ at ≤ length (now out) ⌝ }
@@ -46,7 +46,7 @@ fn by_kind(kind: u64, v: &[u64], table: &[u8], starts: &[usize], out: &mut [u8],
     if k >= starts.len() {
         return at;
     }
-    layouts::put(table, starts[k], v, out, at)
+    templates::put(table, starts[k], v, out, at)
 }
 
 // The line of an answer that has one: a message's, nothing more and refused.
@@ -339,7 +339,7 @@ fn closing(f: Flat, out: &mut [u8], at: usize) -> usize
 {
     let s = f.state;
     let v = f.v;
-    layouts::put(
+    templates::put(
         b"messages {n}\nconsumed {n}\nstopped {n} {n}\n{.",
         0,
         &[s.messages, consumed(s), v[0], v[1]],
@@ -353,7 +353,7 @@ fn end_line(s: Stream, out: &mut [u8], at: usize) -> usize
     requires { ⌜ at ≤ length (now out) ⌝ }
     ensures { λ r. ⌜ r ≤ length (now (out .entry)) ⌝ }
 {
-    layouts::put(b"end {n} {n}\n{.", 0, &[s.messages, consumed(s)], out, at)
+    templates::put(b"end {n} {n}\n{.", 0, &[s.messages, consumed(s)], out, at)
 }
 
 // Shows standard input, and says whether no write failed.
@@ -538,7 +538,7 @@ fn case_all(table: &[u8], starts: &[usize], out: &mut [u8]) -> bool
     flushed(out, h.at)
 }
 
-// The layouts of the lines, one behind the other: nothing more, refused, and for each letter from A to Y what comes behind `body=` in the line of a message
+// The templates of the lines, one behind the other: nothing more, refused, and for each letter from A to Y what comes behind `body=` in the line of a message
 // whose body has this tag; none for the letters that are no tag.
 fn go(raw: bool) {
     let table: &[u8] = b"\
@@ -593,7 +593,7 @@ fn go(raw: bool) {
         Breach\tlevel={1=L1,2=L2,3=L3,}\n{.\
         OrderCancelled\treference={n}\tcancelled={n}\n{.\
         RegShoRestriction\tstock={8}\taction={0=None,1=Intraday,2=Extant,}\n{.";
-    let starts = layouts::starts_of(table);
+    let starts = templates::starts_of(table);
     let mut out = io::large_buffer();
     let mut written = true;
     if raw {

@@ -1,14 +1,14 @@
 -- The laws of templates that the loops cite: what one byte more, one value more or one template more does.
 -- Assumes nothing.
 use Prim.Native.Nat.{ℕ, zero, suc, _+_, _-_, _*_, _/_, _%_, _^_, _≤_, _<_}
-use mathlib.Core.Bool.{true, false}
+use mathlib.Core.Bool.{Bool, true, false}
 use mathlib.Core.List.{List, [], _∷_, _++_, append-nil}
 use mathlib.Core.Path.{_≡_, refl, sym, ap, _∙_}
 use native.Mathlib.Nat.{add-zero}
 use native.Mathlib.Numerals.{add-one}
 use native.Mathlib.Omega.{arith}
-use borrow.Author.Tests.{eq-eqb, ne-eqb}
-use lib.Dec.{eqb}
+use borrow.Author.Tests.{leb-true, leb-false, eq-eqb, ne-eqb}
+use lib.Dec.{leb, eqb}
 use lib.ListN.{length, getD, take, drop, set, length-drop, length-set, drop-of-length-le}
 use lib.Seq.{drop-cons, drop-drop, getD-drop, take-suc-set}
 use Rattle.text.specs.Decimal.{Wrote, Puts}
@@ -138,14 +138,14 @@ spelling-end v n b₀ at b k p h = p .then b k (wrote-none b k h)
 -- ---- the value at a place
 
 -- a byte that is not the default stands within the list
-stands : (t : List ℕ) (i m : ℕ) → getD t i 0 ≡ m → 0 < m → i < length t
-stands [] i m e h = absurd (omega (arith, e))
-stands (x ∷ t) zero m e h = omega arith
-stands (x ∷ t) (suc i) m e h = omega (arith, stands t i m e h)
+pub differs : (t : List ℕ) (i d : ℕ) → (getD t i d ≡ d → ⊥) → i < length t
+differs [] i d e = absurd (e refl)
+differs (x ∷ t) zero d e = omega arith
+differs (x ∷ t) (suc i) d e = omega (arith, differs t i d e)
 
 module _ (t : List ℕ) (i v : ℕ) where
   pub letter-inside : getD t (i + 1) 0 ≡ closing → i + 2 ≤ length t
-  letter-inside e = omega (arith, stands t (i + 1) closing e (omega arith))
+  letter-inside e = omega (arith, differs t (i + 1) 0 (λ z. omega (arith, e, z)))
 
   pub letter-value : getD t (i + 1) 0 ≡ closing → valueOf (drop i t) v ≡ letterOf (getD t i 0) v
   unfolding valueOf
@@ -238,3 +238,11 @@ module _ (t : List ℕ) (i k : ℕ) (q : drop i t ≡ templateOf t k) where
   starts-more l h g p =
       let e : length t - length (templateOf t k) ≡ i = rw (← q, length-drop) (omega arith) in
       rw (add-one k) (take-suc-set l k i h ∙ rw (p, e))
+
+-- what a put answers stays within the buffer
+pub put-inside : {room : ℕ} {t b a : List ℕ} {at r : ℕ} → Puts room t b at a r → at ≤ length b → r ≤ length b
+put-inside {room} {t} {b} {a} {at} {r} p h = go (leb (at + room) (length b)) refl
+  where
+    go : (x : Bool) → leb (at + room) (length b) ≡ x → r ≤ length b
+    go true e = p .fits (leb-true (at + room) (length b) e) .inside
+    go false e = omega (arith, p .full (leb-false (at + room) (length b) e) .1)

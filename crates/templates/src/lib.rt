@@ -5,8 +5,23 @@ ghost use mathlib.Core.Path.{_≡_};
 ghost use Prim.Native.Nat.{_+_, _-_, _*_, _≤_};
 ghost use lib.ListN.{length, getD, drop};
 ghost use Rattle.text.specs.Decimal.{decimalOf, Wrote, Puts};
-ghost use Rattle.templates.specs.Templates.{until, from, past, hexOf, stays, shownOf, bytesOf, widthOf, letterOf, isName, nameOf, valueOf, behindOf,
-    textOf, startsOf};
+ghost use Rattle.templates.specs.Templates.{
+  until,
+  from,
+  past,
+  hexOf,
+  stays,
+  shownOf,
+  bytesOf,
+  widthOf,
+  letterOf,
+  isName,
+  nameOf,
+  valueOf,
+  behindOf,
+  textOf,
+  startsOf,
+};
 
 // Texts and numbers, each put at a place; the place behind it is answered.
 

@@ -1,6 +1,7 @@
 -- `showing::by_kind` meets its contract.
 -- Assumes nothing.
 use borrow.Author.Needs.{needs}
+use Rattle.templates.proofs.Laws.{put-inside}
 use Rattle.showing.proofs.by_kind.Statement.{statement}
 use Rattle.showing.proofs.by_kind.Tie as tie
 
@@ -23,7 +24,7 @@ same-length : tie.Need-same-length
 same-length c = search needs
 
 returns-2 : tie.Need-returns-2
-returns-2 c = c .before .before .put .ensures (search needs)
+returns-2 c = put-inside (c .before .before .put .ensures) (search needs)
 
 pub by-kind-spec : {M : Type 1} → statement M
 by-kind-spec =

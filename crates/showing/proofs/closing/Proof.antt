@@ -1,6 +1,7 @@
 -- `showing::closing` meets its contract.
 -- Assumes nothing.
 use borrow.Author.Needs.{needs}
+use Rattle.templates.proofs.Laws.{put-inside}
 use Rattle.showing.proofs.closing.Statement.{statement}
 use Rattle.showing.proofs.closing.Tie as tie
 
@@ -26,7 +27,7 @@ same-length : tie.Need-same-length
 same-length c = search needs
 
 returns : tie.Need-returns
-returns c = c .before .before .put .ensures (search needs)
+returns c = put-inside (c .before .before .put .ensures) (search needs)
 
 pub closing-spec : {M : Type 1} → statement M
 closing-spec =

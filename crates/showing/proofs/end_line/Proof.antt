@@ -1,6 +1,7 @@
 -- `showing::end_line` meets its contract.
 -- Assumes nothing.
 use borrow.Author.Needs.{needs}
+use Rattle.templates.proofs.Laws.{put-inside}
 use Rattle.showing.proofs.end_line.Statement.{statement}
 use Rattle.showing.proofs.end_line.Tie as tie
 
@@ -20,7 +21,7 @@ same-length : tie.Need-same-length
 same-length c = search needs
 
 returns : tie.Need-returns
-returns c = c .before .before .put .ensures (search needs)
+returns c = put-inside (c .before .before .put .ensures) (search needs)
 
 pub end-line-spec : {M : Type 1} → statement M
 end-line-spec =

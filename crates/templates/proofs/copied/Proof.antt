@@ -24,10 +24,13 @@ same-length : tie.Need-same-length Inv-loop μ-loop
 same-length c = c .before .before .before .loop .inv .long
 
 returns : tie.Need-returns Inv-loop μ-loop
-returns c =
-    ((c .before .before .before .loop .inv .behind, c .before .before .before .loop .inv .inside),
-    (sym (from-stop (c .before .before .before .before .args .table .now) (c .before .before .before .loop .i) (c .before .before .before .before .args .stop) (omega arith) (c .if1 .taken)) ∙ c .before .before .before .loop .inv .rest,
-    copying-end (c .before .before .before .before .args .table .now) (c .before .before .before .before .args .start) (c .before .before .before .before .args .stop) (c .before .before .before .before .args .out .now) (c .before .before .before .before .args .at) (c .before .before .before .loop .out) (c .before .before .before .loop .i) (c .before .before .before .loop .inv) (until-stop (c .before .before .before .before .args .table .now) (c .before .before .before .loop .i) (c .before .before .before .before .args .stop) (omega arith) (c .if1 .taken)) (omega arith)))
+returns c = (
+  (c .before .before .before .loop .inv .behind, c .before .before .before .loop .inv .inside),
+  (
+    sym (from-stop (c .before .before .before .before .args .table .now) (c .before .before .before .loop .i) (c .before .before .before .before .args .stop) (omega arith) (c .if1 .taken)) ∙ c .before .before .before .loop .inv .rest,
+    copying-end (c .before .before .before .before .args .table .now) (c .before .before .before .before .args .start) (c .before .before .before .before .args .stop) (c .before .before .before .before .args .out .now) (c .before .before .before .before .args .at) (c .before .before .before .loop .out) (c .before .before .before .loop .i) (c .before .before .before .loop .inv) (until-stop (c .before .before .before .before .args .table .now) (c .before .before .before .loop .i) (c .before .before .before .before .args .stop) (omega arith) (c .if1 .taken)) (omega arith),
+  ),
+)
 
 sub-out : tie.Need-sub-out Inv-loop μ-loop
 sub-out c = omega arith
@@ -51,10 +54,13 @@ same-length-2 : tie.Need-same-length-2 Inv-loop μ-loop
 same-length-2 c = c .before .loop .inv .long
 
 returns-2 : tie.Need-returns-2 Inv-loop μ-loop
-returns-2 c =
-    ((c .before .loop .inv .behind, c .before .loop .inv .inside),
-    (sym (from-none (c .before .before .args .table .now) (c .before .loop .i) (c .before .before .args .stop) (omega arith)) ∙ c .before .loop .inv .rest,
-    copying-end (c .before .before .args .table .now) (c .before .before .args .start) (c .before .before .args .stop) (c .before .before .args .out .now) (c .before .before .args .at) (c .before .loop .out) (c .before .loop .i) (c .before .loop .inv) (until-none (c .before .before .args .table .now) (c .before .loop .i) (c .before .before .args .stop) (omega arith)) (omega arith)))
+returns-2 c = (
+  (c .before .loop .inv .behind, c .before .loop .inv .inside),
+  (
+    sym (from-none (c .before .before .args .table .now) (c .before .loop .i) (c .before .before .args .stop) (omega arith)) ∙ c .before .loop .inv .rest,
+    copying-end (c .before .before .args .table .now) (c .before .before .args .start) (c .before .before .args .stop) (c .before .before .args .out .now) (c .before .before .args .at) (c .before .loop .out) (c .before .loop .i) (c .before .loop .inv) (until-none (c .before .before .args .table .now) (c .before .loop .i) (c .before .before .args .stop) (omega arith)) (omega arith),
+  ),
+)
 
 pub copied-spec : {M : Type 1} → statement M
 copied-spec =

@@ -38,10 +38,13 @@ loop-less c = omega arith
 loop-again : tie.Need-loop-again Inv-loop μ-loop
 loop-again c =
     let k = c .before .before .loop .k in
-    let q = c .before .before .loop .inv .3 in
-    (omega arith, length-set (c .before .before .loop .starts) k (c .before .before .loop .i) ∙ c .before .before .loop .inv .1, c .behind .ensures .0 .1,
-    template-more (c .before .before .before .before .args .table .now) (c .before .before .loop .i) k q (c .behind .result) (c .behind .ensures .1),
-    starts-more (c .before .before .before .before .args .table .now) (c .before .before .loop .i) k q (c .before .before .loop .starts) (omega arith) (omega arith) (c .before .before .loop .inv .4))
+    let q = c .before .before .loop .inv .3 in (
+      omega arith,
+      length-set (c .before .before .loop .starts) k (c .before .before .loop .i) ∙ c .before .before .loop .inv .1,
+      c .behind .ensures .0 .1,
+      template-more (c .before .before .before .before .args .table .now) (c .before .before .loop .i) k q (c .behind .result) (c .behind .ensures .1),
+      starts-more (c .before .before .before .before .args .table .now) (c .before .before .loop .i) k q (c .before .before .loop .starts) (omega arith) (omega arith) (c .before .before .loop .inv .4),
+    )
 
 returns : tie.Need-returns Inv-loop μ-loop
 returns c =

@@ -1,69 +1,66 @@
+-- `templates::value` meets its contract.
+-- Assumes nothing.
+use mathlib.Core.Path.{sym, ap, _∙_}
+use native.Mathlib.Omega.{arith}
+use Rattle.text.proofs.Laws.{wrote-as}
+use Rattle.templates.specs.Templates.{closing, comma, until, from, past}
+use Rattle.templates.proofs.Laws.{letter-inside, letter-value, letter-behind, name-value, name-behind}
 use borrow.Author.Needs.{needs}
 use Rattle.templates.proofs.value.Statement.{statement}
 use Rattle.templates.proofs.value.Tie as tie
-use Rattle.templates.proofs.value.Reads as reads
-use Rattle.templates.proofs.value.Lts as lts
-use Rattle.templates.proofs.behind.Reads as behind-reads
-use Rattle.templates.proofs.byte_or.Reads as byte-or-reads
-use Rattle.templates.proofs.copied.Reads as copied-reads
-use Rattle.templates.proofs.letter.Reads as letter-reads
-use Rattle.templates.proofs.named.Reads as named-reads
 
--- src/lib.rt:203:23
 add-byte-or : tie.Need-add-byte-or
 add-byte-or c = search needs
 
--- src/lib.rt:203:8
 byte-or-requires : tie.Need-byte-or-requires
 byte-or-requires c κs = search needs
 
--- src/lib.rt:204:27
 shared-slice-read-letter : tie.Need-shared-slice-read-letter
-shared-slice-read-letter c = ?
+shared-slice-read-letter c = omega (arith, letter-inside (c .before .before .before .before .before .args .table .now) (c .before .before .before .before .before .args .start) (c .before .before .before .before .before .args .v) (sym (c .before .before .byte-or .ensures) ∙ c .before .if1 .taken))
 
--- src/lib.rt:204:13
 letter-requires : tie.Need-letter-requires
 letter-requires c κs = search needs
 
--- src/lib.rt:206:19
 add-t17 : tie.Need-add-t17
 add-t17 c = search needs
 
--- src/lib.rt:205:9
 same-length : tie.Need-same-length
 same-length c = search needs
 
--- src/lib.rt:205:9
 returns : tie.Need-returns
-returns c = ?
+returns c =
+    let i = letter-inside (c .before .before .before .before .before .before .before .before .before .args .table .now) (c .before .before .before .before .before .before .before .before .before .args .start) (c .before .before .before .before .before .before .before .before .before .args .v) (sym (c .before .before .before .before .before .before .byte-or .ensures) ∙ c .before .before .before .before .before .if1 .taken) in
+    ((i, omega (arith, i, c .before .before .letter .ensures .1)), (sym (letter-behind (c .before .before .before .before .before .before .before .before .before .args .table .now) (c .before .before .before .before .before .before .before .before .before .args .start) (c .before .before .before .before .before .before .before .before .before .args .v) (sym (c .before .before .before .before .before .before .byte-or .ensures) ∙ c .before .before .before .before .before .if1 .taken)), wrote-as (letter-value (c .before .before .before .before .before .before .before .before .before .args .table .now) (c .before .before .before .before .before .before .before .before .before .args .start) (c .before .before .before .before .before .before .before .before .before .args .v) (sym (c .before .before .before .before .before .before .byte-or .ensures) ∙ c .before .before .before .before .before .if1 .taken)) (c .before .before .letter .ensures .0)))
 
--- src/lib.rt:210:9
 named-requires : tie.Need-named-requires
 named-requires c κs = search needs
 
--- src/lib.rt:211:9
 copied-requires : tie.Need-copied-requires
 copied-requires c κs = search needs
 
--- src/lib.rt:212:9
 behind-requires : tie.Need-behind-requires
 behind-requires c κs = search needs
 
--- src/lib.rt:215:19
 sub-t11 : tie.Need-sub-t11
 sub-t11 c = search needs
 
--- src/lib.rt:215:13
 add-t20 : tie.Need-add-t20
 add-t20 c = search needs
 
--- src/lib.rt:196:1
 same-length-2 : tie.Need-same-length-2
 same-length-2 c = search needs
 
--- src/lib.rt:196:1
 returns-2 : tie.Need-returns-2
-returns-2 c = ?
+returns-2 c =
+    let n = c .before .before .before .before .before .named .ensures in
+    let e = c .before .before .before .copied .ensures in
+    let b = c .behind .ensures in (
+      (omega arith, omega (arith, n .0, e .0, b .0)),
+      (
+        b .1 ∙ ap (past closing) (e .1 .0 ∙ ap (from comma) (n .1)) ∙ sym (name-behind (c .before .before .before .before .before .before .before .before .before .before .args .table .now) (c .before .before .before .before .before .before .before .before .before .before .args .start) (c .before .before .before .before .before .before .before .before .before .before .args .v) (λ z. c .before .before .before .before .before .before .if1 .left (c .before .before .before .before .before .before .before .byte-or .ensures ∙ z))),
+        wrote-as (name-value (c .before .before .before .before .before .before .before .before .before .before .args .table .now) (c .before .before .before .before .before .before .before .before .before .before .args .start) (c .before .before .before .before .before .before .before .before .before .before .args .v) (λ z. c .before .before .before .before .before .before .if1 .left (c .before .before .before .before .before .before .before .byte-or .ensures ∙ z)) ∙ ap (until comma) (sym (n .1))) (e .1 .1),
+      ),
+    )
 
 pub value-spec : {M : Type 1} → statement M
 value-spec =
