@@ -1,9 +1,10 @@
 -- `showing::whole_cases` meets its contract.
 -- Assumes nothing.
-use borrow.Author.Needs.{needs}
 use lib.ListN.{length}
 use mathlib.Core.Path.{_≡_}
 use Prim.Native.Nat.{_-_, _≤_}
+use Rattle.reads.proofs.Laws.{case-end-inside}
+use borrow.Author.Needs.{needs}
 use Rattle.showing.proofs.whole_cases.Statement.{statement}
 use Rattle.showing.proofs.whole_cases.Tie as tie
 
@@ -32,13 +33,19 @@ same-length-2 : tie.Need-same-length-2 Inv-loop μ-loop
 same-length-2 c = search needs
 
 returns-2 : tie.Need-returns-2 Inv-loop μ-loop
-returns-2 c = search needs
+returns-2 c =
+    let h = case-end-inside (c .before .before .before .before .before .before .before .before .before .before .before .before .before .args .list .now) (c .before .before .before .before .before .before .before .before .loop .c .i) (c .before .before .before .before .before .before .before .before .loop .inv .0) in
+    search needs
 
 loop-less : tie.Need-loop-less Inv-loop μ-loop
-loop-less c = search needs
+loop-less c =
+    let h = case-end-inside (c .before .before .before .before .before .before .before .before .before .before .before .before .before .args .list .now) (c .before .before .before .before .before .before .before .before .loop .c .i) (c .before .before .before .before .before .before .before .before .loop .inv .0) in
+    search needs
 
 loop-again : tie.Need-loop-again Inv-loop μ-loop
-loop-again c = search needs
+loop-again c =
+    let h = case-end-inside (c .before .before .before .before .before .before .before .before .before .before .before .before .before .args .list .now) (c .before .before .before .before .before .before .before .before .loop .c .i) (c .before .before .before .before .before .before .before .before .loop .inv .0) in
+    search needs
 
 pub whole-cases-spec : {M : Type 1} → statement M
 whole-cases-spec =
