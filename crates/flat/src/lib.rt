@@ -430,7 +430,8 @@ fn said(state: Stream, kind: u64, a: u64, b: u64) -> Flat
     }
 }
 
-fn flatten(step: Step) -> Flat
+// A step of a call: its state, and its answer as numbers.
+pub fn flatten(step: Step) -> Flat
     ensures { λ r. ⌜ r ≡ flatOf (step .state) (step .answer) ⌝ }
 {
     let state = step.state;
