@@ -1,17 +1,14 @@
-// Plays a list of single calls that stands on standard input, and prints a line for each: what was answered, the state and the lent bytes afterwards.
+// Plays a list of single calls that stands on standard input, and prints a line for each: what was answered, the state and the lent bytes afterwards. The
+// stream's calls are played twice, by value and over a lent state.
 // oracle/calls makes the list and says its form: 17 numbers a call, then the explicit bytes of A and of B. What is more than a buffer has is cut, and
 // behind the list's end there are zeros; a call that has no number here ends the program.
+ghost use mathlib.Core.Path.{_≡_};
 ghost use Prim.Native.Nat.{_≤_};
 ghost use lib.ListN.{length};
-use codes::CrossType;
 use flat::Flat;
+use play::Played;
 use reader::Window;
-use records::AddOrder;
-use records::Body;
-use records::CrossTrade;
-use records::ImbalanceIndicator;
 use records::Message;
-use records::Mpid;
 use stream::Answer;
 use stream::Step;
 use stream::Stream;
@@ -140,16 +137,17 @@ fn make(b: &mut [u8], fill: u64, place: usize, n: usize, list: &[u8], at: usize)
 
 // ---- the lines
 
-// The sum of bytes: a change of any of them changes it.
+// The sum of bytes: each counts, one more than it is, as often as there are bytes from it on. A change of any of them changes it.
 fn sum(b: &[u8]) -> u64 {
-    let mut s = 0;
+    let mut once = 0;
+    let mut all = 0;
     let mut i = 0;
     while i < b.len() {
-        let weight = (i % 4194304) as u64 + 1;
-        s = (s % 4294967296 + weight * (wide(b[i]) + 1)) % 4294967296;
+        once = (once + wide(b[i]) + 1) % 4294967296;
+        all = (all + once) % 4294967296;
         i += 1;
     }
-    s
+    all
 }
 
 // A word alone.
@@ -165,7 +163,7 @@ fn answered(f: Flat, out: &mut [u8], at: usize) -> usize {
         return word(b" nothing{.", out, at);
     }
     if f.kind == flat::REFUSED {
-        return layouts::put(b" refused {n} {n}{.", 0, &v[..2], out, at);
+        return layouts::put(b" refused {n} {n}{.", 0, &[v[0], v[1]], out, at);
     }
     if f.kind == flat::WANTS {
         return word(b" wants{.", out, at);
@@ -173,11 +171,33 @@ fn answered(f: Flat, out: &mut [u8], at: usize) -> usize {
     if f.kind == flat::READY {
         return word(b" ready{.", out, at);
     }
-    let next = layouts::put(b" message {n} {n} {n} {n}{.", 0, &v[..4], out, at);
+    let next = layouts::put(
+        b" message {n} {n} {n} {n}{.",
+        0,
+        &[v[0], v[1], v[2], v[3]],
+        out,
+        at,
+    );
     layouts::put(
         b" {n} {n} {n} {n} {n} {n} {n} {n} {n} {n} {n} {n} {n} {n} {n}{.",
         0,
-        &v[4..],
+        &[
+            v[4],
+            v[5],
+            v[6],
+            v[7],
+            v[8],
+            v[9],
+            v[10],
+            v[11],
+            v[12],
+            v[13],
+            v[14],
+            v[15],
+            v[16],
+            v[17],
+            v[18],
+        ],
         out,
         next,
     )
@@ -321,8 +341,30 @@ fn state_of(v: [u64; 17]) -> Stream {
     }
 }
 
-fn play(v: [u64; 17], a: &mut [u8], b: &[u8], out: &mut [u8], at: usize) -> usize {
-    let p = play::play(state_of(v), a, b, v[7] as usize, v[8] as usize);
+// Each call of the stream, by value or over a lent state.
+
+fn next(lent: bool, s: Stream, a: &[u8]) -> Step {
+    if lent { lender::next(s, a) } else { stream::next_of(s, a) }
+}
+
+fn make_room(lent: bool, s: Stream, a: &mut [u8]) -> Step {
+    if lent { lender::make_room(s, a) } else { stream::make_room_of(s, a) }
+}
+
+fn told(lent: bool, s: Stream, n: usize) -> Step {
+    if lent { lender::told(s, n) } else { stream::told_of(s, n) }
+}
+
+fn told_failed(lent: bool, s: Stream) -> Step {
+    if lent { lender::told_failed(s) } else { stream::told_failed_of(s) }
+}
+
+fn played(lent: bool, s: Stream, a: &mut [u8], b: &[u8], at: usize, width: usize) -> Played {
+    if lent { lender::play(s, a, b, at, width) } else { play::play(s, a, b, at, width) }
+}
+
+fn play_line(lent: bool, v: [u64; 17], a: &mut [u8], b: &[u8], out: &mut [u8], at: usize) -> usize {
+    let p = played(lent, state_of(v), a, b, v[7] as usize, v[8] as usize);
     let s = p.state;
     let answer = p.answer;
     let next = answered(flat::flatten(Step { state: s, answer }), out, at);
@@ -330,164 +372,7 @@ fn play(v: [u64; 17], a: &mut [u8], b: &[u8], out: &mut [u8], at: usize) -> usiz
     state(s, out, then)
 }
 
-// ---- records that are changed before they are written
-
-const TAG: u64 = 1;
-
-const TIME: u64 = 2;
-
-const TEXT8: u64 = 3;
-
-const TEXT4: u64 = 4;
-
-const NO_MPID: u64 = 5;
-
-const INTRADAY: u64 = 6;
-
-fn mpid_of(old: Mpid, what: u64, to: u64) -> Mpid {
-    if what == TEXT4 {
-        return Mpid::Present((to % 4294967296) as u32);
-    }
-    if what == NO_MPID {
-        return Mpid::Absent;
-    }
-    old
-}
-
-fn cross_of(old: CrossType, what: u64) -> CrossType {
-    if what == INTRADAY {
-        return CrossType::Intraday;
-    }
-    old
-}
-
-fn text8_of(old: u64, what: u64, to: u64) -> u64 {
-    if what == TEXT8 { to } else { old }
-}
-
-fn text4_of(old: u32, what: u64, to: u64) -> u32 {
-    if what == TEXT4 {
-        (to % 4294967296) as u32
-    } else {
-        old
-    }
-}
-
-// A body with its texts, its mpid or its cross changed, where it has one.
-fn body_of(b: Body, what: u64, to: u64) -> Body {
-    match b {
-        Body::AddOrder(x) => {
-            let side = x.side;
-            let mpid = x.mpid;
-            Body::AddOrder(AddOrder {
-                reference: x.reference,
-                side,
-                shares: x.shares,
-                stock: text8_of(x.stock, what, to),
-                price: x.price,
-                mpid: mpid_of(mpid, what, to),
-            })
-        }
-        Body::CrossTrade(x) => {
-            let cross = x.cross_type;
-            Body::CrossTrade(CrossTrade {
-                shares: x.shares,
-                stock: text8_of(x.stock, what, to),
-                cross_price: x.cross_price,
-                match_number: x.match_number,
-                cross_type: cross_of(cross, what),
-            })
-        }
-        Body::Imbalance(x) => {
-            let direction = x.imbalance_direction;
-            let cross = x.cross_type;
-            Body::Imbalance(ImbalanceIndicator {
-                paired_shares: x.paired_shares,
-                imbalance_shares: x.imbalance_shares,
-                imbalance_direction: direction,
-                stock: text8_of(x.stock, what, to),
-                far_price: x.far_price,
-                near_price: x.near_price,
-                current_ref_price: x.current_ref_price,
-                cross_type: cross_of(cross, what),
-                price_variation_indicator: x.price_variation_indicator,
-            })
-        }
-        Body::IpoQuotingPeriod(x) => {
-            let mut y = x;
-            y.stock = text8_of(x.stock, what, to);
-            Body::IpoQuotingPeriod(y)
-        }
-        Body::LULDAuctionCollar {
-            stock,
-            ref_price,
-            upper_price,
-            lower_price,
-            extension,
-        } => Body::LULDAuctionCollar {
-            stock: text8_of(stock, what, to),
-            ref_price,
-            upper_price,
-            lower_price,
-            extension,
-        },
-        Body::NonCrossTrade(x) => {
-            let mut y = x;
-            y.stock = text8_of(x.stock, what, to);
-            Body::NonCrossTrade(y)
-        }
-        Body::ParticipantPosition(x) => {
-            let mut y = x;
-            y.stock = text8_of(x.stock, what, to);
-            y.mpid = text4_of(x.mpid, what, to);
-            Body::ParticipantPosition(y)
-        }
-        Body::RegShoRestriction { stock, action } => Body::RegShoRestriction {
-            stock: text8_of(stock, what, to),
-            action,
-        },
-        Body::RetailPriceImprovementIndicator(x) => {
-            let mut y = x;
-            y.stock = text8_of(x.stock, what, to);
-            Body::RetailPriceImprovementIndicator(y)
-        }
-        Body::StockDirectory(x) => {
-            let mut y = x;
-            y.stock = text8_of(x.stock, what, to);
-            Body::StockDirectory(y)
-        }
-        Body::TradingAction {
-            stock,
-            trading_state,
-            reason,
-        } => Body::TradingAction {
-            stock: text8_of(stock, what, to),
-            trading_state,
-            reason: text4_of(reason, what, to),
-        },
-        _ => b,
-    }
-}
-
-// A record with one thing changed.
-fn changed(m: Message, what: u64, to: u64) -> Message {
-    let mut tag = m.tag;
-    let mut timestamp = m.timestamp;
-    if what == TAG {
-        tag = as_byte(to % 256);
-    }
-    if what == TIME {
-        timestamp = to;
-    }
-    let body = m.body;
-    Message {
-        tag,
-        stock_locate: m.stock_locate,
-        tracking_number: m.tracking_number,
-        timestamp,
-        body: body_of(body, what, to),
-    }
-}
+// ---- the writer
 
 fn wrote(w: Written, out: &mut [u8], at: usize) -> usize {
     match w {
@@ -501,57 +386,90 @@ fn write(v: [u64; 17], a: &mut [u8], b: &[u8], out: &mut [u8], at: usize) -> usi
     let Window::Message(m, _) = w else {
         return word(b" no record{.", out, at);
     };
-    let m1 = changed(m, v[1], v[2]);
-    let m2 = changed(m1, v[3], v[4]);
-    let m3 = changed(m2, v[5], v[6]);
-    let m4 = changed(m3, v[7], v[8]);
+    let m1 = changes::changed(m, v[1], v[2]);
+    let m2 = changes::changed(m1, v[3], v[4]);
+    let m3 = changes::changed(m2, v[5], v[6]);
+    let m4 = changes::changed(m3, v[7], v[8]);
     wrote(writer::write(m4, a), out, at)
 }
 
 // ---- the program
 
-// Makes a call and puts its line.
-fn call(v: [u64; 17], a: &mut [u8], b: &[u8], out: &mut [u8]) -> usize {
-    match v[0] {
-        1 => {
-            let at = word(b"window{.", out, 0);
-            window(a, out, at)
-        }
-        2 => {
-            let at = word(b"step{.", out, 0);
-            step(v, a, b, out, at)
-        }
-        3 => {
-            let at = word(b"next{.", out, 0);
-            stepped(stream::next_of(state_of(v), a), out, at)
-        }
-        4 => {
-            let at = word(b"make_room{.", out, 0);
-            stepped(stream::make_room_of(state_of(v), a), out, at)
-        }
-        5 => {
-            let at = word(b"told{.", out, 0);
-            stepped(stream::told_of(state_of(v), v[7] as usize), out, at)
-        }
-        6 => {
-            let at = word(b"told_failed{.", out, 0);
-            stepped(stream::told_failed_of(state_of(v)), out, at)
-        }
-        7 => {
-            let at = word(b"play{.", out, 0);
-            play(v, a, b, out, at)
-        }
-        8 => {
-            let at = word(b"write{.", out, 0);
-            write(v, a, b, out, at)
-        }
-        _ => 0,
+// The calls' numbers.
+const WINDOW: u64 = 1;
+
+const STEP: u64 = 2;
+
+const NEXT: u64 = 3;
+
+const MAKE_ROOM: u64 = 4;
+
+const TOLD: u64 = 5;
+
+const TOLD_FAILED: u64 = 6;
+
+const PLAY: u64 = 7;
+
+const WRITE: u64 = 8;
+
+// A call of the stream, and its line.
+fn stream_call(lent: bool, v: [u64; 17], a: &mut [u8], b: &[u8], out: &mut [u8], from: usize) -> usize {
+    let which = v[0];
+    let s = state_of(v);
+    if which == NEXT {
+        let at = word(b"next{.", out, from);
+        return stepped(next(lent, s, a), out, at);
     }
+    if which == MAKE_ROOM {
+        let at = word(b"make_room{.", out, from);
+        return stepped(make_room(lent, s, a), out, at);
+    }
+    if which == TOLD {
+        let at = word(b"told{.", out, from);
+        return stepped(told(lent, s, v[7] as usize), out, at);
+    }
+    if which == TOLD_FAILED {
+        let at = word(b"told_failed{.", out, from);
+        return stepped(told_failed(lent, s), out, at);
+    }
+    let at = word(b"play{.", out, from);
+    play_line(lent, v, a, b, out, at)
 }
 
-fn line(v: [u64; 17], a: &mut [u8], b: &[u8]) -> bool {
+// Whether the call is one of the stream's, which are played over a lent state too.
+fn of_stream(which: u64) -> bool {
+    if which < NEXT { false } else { which <= PLAY }
+}
+
+// A call and its line; 0 where no call has this number.
+fn call(lent: bool, v: [u64; 17], a: &mut [u8], b: &[u8], out: &mut [u8]) -> usize {
+    let which = v[0];
+    if which == WINDOW {
+        let at = word(b"window{.", out, 0);
+        return window(a, out, at);
+    }
+    if which == STEP {
+        let at = word(b"step{.", out, 0);
+        return step(v, a, b, out, at);
+    }
+    if which == WRITE {
+        let at = word(b"write{.", out, 0);
+        return write(v, a, b, out, at);
+    }
+    if !of_stream(which) {
+        return 0;
+    }
+    if lent {
+        let from = word(b"lent {.", out, 0);
+        return stream_call(true, v, a, b, out, from);
+    }
+    stream_call(false, v, a, b, out, 0)
+}
+
+// The whole line; whether there was such a call and the line could be written.
+fn line(lent: bool, v: [u64; 17], a: &mut [u8], b: &[u8]) -> bool {
     let mut out = io::buffer();
-    let at = call(v, a, b, &mut out);
+    let at = call(lent, v, a, b, &mut out);
     if at == 0 {
         return false;
     }
@@ -562,14 +480,15 @@ fn line(v: [u64; 17], a: &mut [u8], b: &[u8]) -> bool {
     io::write_all(1, &out[..end])
 }
 
-// The place behind a call, and whether to go on.
+// The place behind a call, whether to go on, and whether the call is played over a lent state too.
 struct Went {
     next: usize,
     more: bool,
+    lends: bool,
 }
 
-// The call at a place, with room for its bytes.
-fn turn(list: &[u8], at: usize, room_a: &mut [u8], room_b: &mut [u8]) -> Went
+// The call at a place, with zeros to put its bytes in.
+fn turn(list: &[u8], at: usize, lent: bool, room_a: &mut [u8], room_b: &mut [u8]) -> Went
     requires { ⌜ at ≤ length (now list) ⌝ }
     ensures { λ r. ⌜ r .next ≤ length (now (list .entry)) ⌝ }
 {
@@ -583,7 +502,8 @@ fn turn(list: &[u8], at: usize, room_a: &mut [u8], room_b: &mut [u8]) -> Went
     let next = make(b, v[14], v[15] as usize, v[16] as usize, list, mid);
     Went {
         next,
-        more: line(v, a, b),
+        more: line(lent, v, a, b),
+        lends: of_stream(v[0]),
     }
 }
 
@@ -593,14 +513,25 @@ fn room() -> [u8; 70000]
     [0; 70000]
 }
 
-// The same, with zeros to put the bytes in.
-fn fresh_turn(list: &[u8], at: usize) -> Went
+fn fresh_turn(list: &[u8], at: usize, lent: bool) -> Went
     requires { ⌜ at ≤ length (now list) ⌝ }
     ensures { λ r. ⌜ r .next ≤ length (now (list .entry)) ⌝ }
 {
     let mut a = room();
     let mut b = room();
-    turn(list, at, &mut a, &mut b)
+    turn(list, at, lent, &mut a, &mut b)
+}
+
+// By value, and then over a lent state where the call has one.
+fn both_turns(list: &[u8], at: usize) -> Went
+    requires { ⌜ at ≤ length (now list) ⌝ }
+    ensures { λ r. ⌜ r .next ≤ length (now (list .entry)) ⌝ }
+{
+    let t = fresh_turn(list, at, false);
+    if t.more && t.lends {
+        return fresh_turn(list, at, true);
+    }
+    t
 }
 
 // All calls of the list; whether it was one, and all was written.
@@ -611,7 +542,7 @@ fn turns(list: &[u8]) -> bool {
         if at == list.len() {
             return true;
         }
-        let t = fresh_turn(list, at);
+        let t = both_turns(list, at);
         if !t.more {
             return false;
         }

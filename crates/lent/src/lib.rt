@@ -28,8 +28,10 @@ fn next_on(start: usize, end: usize, messages: u64, error: bool, buf: &[u8]) -> 
     stream::next_of(parts, buf)
 }
 
+// Next: the message that stands first in the window, or why there is none.
 pub fn next(s: &mut Stream, buf: &[u8]) -> Answer
-    ensures { λ r. ⌜ (r ≡ nextOf (now (s .entry)) (now (buf .entry)) .answer) × (now (s .exit) ≡ nextOf (now (s .entry)) (now (buf .entry)) .state) ⌝ }
+    ensures { λ r. ⌜ (r ≡ nextOf (now (s .entry)) (now (buf .entry)) .answer)
+        × (now (s .exit) ≡ nextOf (now (s .entry)) (now (buf .entry)) .state) ⌝ }
 {
     let step = next_on(s.start, s.end, s.messages, s.error, buf);
     s.start = step.state.start;
@@ -38,6 +40,7 @@ pub fn next(s: &mut Stream, buf: &[u8]) -> Answer
     step.answer
 }
 
+// Make room, on the parts that it looks at.
 fn room_on(start: usize, end: usize, calls: u64, buf: &mut [u8]) -> Step
     ensures { λ r. ⌜ (r ≡ roomOf (stateOf start end 0 calls 0 false) (length (now (buf .entry))))
         × (now (buf .exit) ≡ roomBuffer (stateOf start end 0 calls 0 false) (now (buf .entry))) ⌝ }
@@ -53,6 +56,7 @@ fn room_on(start: usize, end: usize, calls: u64, buf: &mut [u8]) -> Step
     stream::make_room_of(parts, buf)
 }
 
+// Make room: where it is ready, the buffer from end onward is the caller's to fill.
 pub fn make_room(s: &mut Stream, buf: &mut [u8]) -> Answer
     ensures { λ r. ⌜ (r ≡ roomOf (now (s .entry)) (length (now (buf .entry))) .answer)
         × (now (s .exit) ≡ roomOf (now (s .entry)) (length (now (buf .entry))) .state)
@@ -65,6 +69,7 @@ pub fn make_room(s: &mut Stream, buf: &mut [u8]) -> Answer
     step.answer
 }
 
+// Told, on the parts that it looks at.
 fn told_on(start: usize, end: usize, bytes: u64, error: bool, n: usize) -> Step
     ensures { λ r. ⌜ r ≡ toldOf (stateOf start end bytes 0 0 error) n ⌝ }
 {
@@ -79,8 +84,10 @@ fn told_on(start: usize, end: usize, bytes: u64, error: bool, n: usize) -> Step
     stream::told_of(parts, n)
 }
 
+// Told how many bytes the free part was filled with; none means that the input ended.
 pub fn told(s: &mut Stream, n: usize) -> Answer
-    ensures { λ r. ⌜ (r ≡ toldOf (now (s .entry)) n .answer) × (now (s .exit) ≡ toldOf (now (s .entry)) n .state) ⌝ }
+    ensures { λ r. ⌜ (r ≡ toldOf (now (s .entry)) n .answer)
+        × (now (s .exit) ≡ toldOf (now (s .entry)) n .state) ⌝ }
 {
     let step = told_on(s.start, s.end, s.bytes_read, s.error, n);
     s.end = step.state.end;
@@ -89,6 +96,7 @@ pub fn told(s: &mut Stream, n: usize) -> Answer
     step.answer
 }
 
+// Told a failed read, on the parts that it looks at.
 fn failed_on(start: usize, end: usize, error: bool) -> Step
     ensures { λ r. ⌜ r ≡ failedOf (stateOf start end 0 0 0 error) ⌝ }
 {
@@ -103,8 +111,10 @@ fn failed_on(start: usize, end: usize, error: bool) -> Step
     stream::told_failed_of(parts)
 }
 
+// Told that the read failed.
 pub fn told_failed(s: &mut Stream) -> Answer
-    ensures { λ r. ⌜ (r ≡ failedOf (now (s .entry)) .answer) × (now (s .exit) ≡ failedOf (now (s .entry)) .state) ⌝ }
+    ensures { λ r. ⌜ (r ≡ failedOf (now (s .entry)) .answer)
+        × (now (s .exit) ≡ failedOf (now (s .entry)) .state) ⌝ }
 {
     let step = failed_on(s.start, s.end, s.error);
     s.error = step.state.error;
@@ -144,7 +154,7 @@ fn played_on(
     play::play(parts, buf, src, at, width)
 }
 
-// A slice plays the reader: the position comes back with the answer.
+// A slice plays the reader, in pieces of a width: the position comes back with the answer.
 pub fn play_on(s: &mut Stream, buf: &mut [u8], src: &[u8], at: usize, width: usize) -> Reach
     ensures { λ r. ⌜ (r .at ≡ playOf (now (src .entry)) width (now (s .entry)) (now (buf .entry)) at .played .at)
         × (r .answer ≡ playOf (now (src .entry)) width (now (s .entry)) (now (buf .entry)) at .played .answer)
@@ -173,13 +183,4 @@ pub fn play_on(s: &mut Stream, buf: &mut [u8], src: &[u8], at: usize, width: usi
         at: p.at,
         answer: p.answer,
     }
-}
-
-// A caller with plain parameters: it makes a state in a local and lends it twice. Whoever calls this one needs no walk.
-pub fn fails_twice() -> Answer
-    ensures { λ r. ⌜ r ≡ Answer.Nothing ⌝ }
-{
-    let mut s = stream::fresh();
-    told_failed(&mut s);
-    told_failed(&mut s)
 }
