@@ -344,23 +344,43 @@ fn state_of(v: [u64; 17]) -> Stream {
 // Each call of the stream, by value or over a lent state.
 
 fn next(lent: bool, s: Stream, a: &[u8]) -> Step {
-    if lent { lender::next(s, a) } else { stream::next_of(s, a) }
+    if lent {
+        lender::next(s, a)
+    } else {
+        stream::next_of(s, a)
+    }
 }
 
 fn make_room(lent: bool, s: Stream, a: &mut [u8]) -> Step {
-    if lent { lender::make_room(s, a) } else { stream::make_room_of(s, a) }
+    if lent {
+        lender::make_room(s, a)
+    } else {
+        stream::make_room_of(s, a)
+    }
 }
 
 fn told(lent: bool, s: Stream, n: usize) -> Step {
-    if lent { lender::told(s, n) } else { stream::told_of(s, n) }
+    if lent {
+        lender::told(s, n)
+    } else {
+        stream::told_of(s, n)
+    }
 }
 
 fn told_failed(lent: bool, s: Stream) -> Step {
-    if lent { lender::told_failed(s) } else { stream::told_failed_of(s) }
+    if lent {
+        lender::told_failed(s)
+    } else {
+        stream::told_failed_of(s)
+    }
 }
 
 fn played(lent: bool, s: Stream, a: &mut [u8], b: &[u8], at: usize, width: usize) -> Played {
-    if lent { lender::play(s, a, b, at, width) } else { play::play(s, a, b, at, width) }
+    if lent {
+        lender::play(s, a, b, at, width)
+    } else {
+        play::play(s, a, b, at, width)
+    }
 }
 
 fn play_line(lent: bool, v: [u64; 17], a: &mut [u8], b: &[u8], out: &mut [u8], at: usize) -> usize {
@@ -413,7 +433,14 @@ const PLAY: u64 = 7;
 const WRITE: u64 = 8;
 
 // A call of the stream, and its line.
-fn stream_call(lent: bool, v: [u64; 17], a: &mut [u8], b: &[u8], out: &mut [u8], from: usize) -> usize {
+fn stream_call(
+    lent: bool,
+    v: [u64; 17],
+    a: &mut [u8],
+    b: &[u8],
+    out: &mut [u8],
+    from: usize,
+) -> usize {
     let which = v[0];
     let s = state_of(v);
     if which == NEXT {
@@ -466,6 +493,13 @@ fn call(lent: bool, v: [u64; 17], a: &mut [u8], b: &[u8], out: &mut [u8]) -> usi
     stream_call(false, v, a, b, out, 0)
 }
 
+// Hands what stands before `end` to the write calls, and says whether they took it.
+fn flushed(out: &[u8], end: usize) -> bool
+    requires { ⌜ end ≤ length (now out) ⌝ }
+{
+    io::write_all(1, &out[..end])
+}
+
 // The whole line; whether there was such a call and the line could be written.
 fn line(lent: bool, v: [u64; 17], a: &mut [u8], b: &[u8]) -> bool {
     let mut out = io::buffer();
@@ -477,7 +511,7 @@ fn line(lent: bool, v: [u64; 17], a: &mut [u8], b: &[u8]) -> bool {
     if end > 4096 {
         return false;
     }
-    io::write_all(1, &out[..end])
+    flushed(&out, end)
 }
 
 // The place behind a call, whether to go on, and whether the call is played over a lent state too.

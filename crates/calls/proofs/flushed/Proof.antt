@@ -1,0 +1,20 @@
+-- `calls::flushed` meets its contract.
+-- Assumes nothing.
+use native.Mathlib.Omega.{arith}
+use lib.Seq.{length-take-le}
+use mathlib.Core.Path.{sym}
+use borrow.Author.Needs.{needs}
+use Rattle.calls.proofs.flushed.Statement.{statement}
+use Rattle.calls.proofs.flushed.Tie as tie
+
+slice-aggregate-write-all : tie.Need-slice-aggregate-write-all
+slice-aggregate-write-all c = sym (length-take-le _ _ (omega arith))
+
+write-all-requires : tie.Need-write-all-requires
+write-all-requires c κs = search needs
+
+returns : tie.Need-returns
+returns c = search needs
+
+pub flushed-spec : {M : Type 1} → statement M
+flushed-spec = tie.close (tie.spec slice-aggregate-write-all write-all-requires returns)
