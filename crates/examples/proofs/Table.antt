@@ -7,7 +7,7 @@ use Rattle.format.specs.Codes.{side, yesNo, direction, imbalanceCross, cross, c
 use Rattle.format.specs.Utf8.{utfStep, utfRun, wellFormed}
 use Rattle.format.specs.Layout.{judge, field}
 use Rattle.format.specs.Rows.{window}
-use Rattle.codes.specs.Names.{eventByte, eventFrom, categoryByte, categoryFrom, statusByte, statusFrom, classByte, classFrom, subtypeByte, subtypeFrom, crossByte, crossFrom, sideByte, sideFrom, flagByte, flagFrom, tierByte, tierFrom}
+use Rattle.codes.specs.Names.{eventFrom, categoryFrom, statusFrom, classFrom, subtypeByte, subtypeFrom, crossFrom, sideFrom, flagFrom, tierFrom}
 use Rattle.records.specs.Values.{bodyFrom}
 use Rattle.reader.specs.Window.{windowOf}
 use Rattle.walk.specs.Walk.{frameOf}
@@ -18,8 +18,8 @@ use Rattle.examples.specs.Examples as Examples
 table : map anew rows ≡ rows
 unfolding windowOf window field judge utfStep utfRun wellFormed bodyFrom frameOf walkAt
     side yesNo direction imbalanceCross cross category status class authenticity flag tier etpFlag event subtypes
-    eventByte eventFrom categoryByte categoryFrom statusByte statusFrom classByte classFrom subtypeByte subtypeFrom
-    crossByte crossFrom sideByte sideFrom flagByte flagFrom tierByte tierFrom
+    eventFrom categoryFrom statusFrom classFrom subtypeByte subtypeFrom
+    crossFrom sideFrom flagFrom tierFrom
 table = refl
 
 holds : (r : Row) → anew r ≡ r → Holds r
