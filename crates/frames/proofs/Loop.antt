@@ -23,24 +23,24 @@ use Rattle.frames.specs.Told.{Behind, pieceOf, Ended}
 pub record In (b : List ℕ) (w₀ w : Walk) (i : ℕ) : Type 0 where
   pub inside : i ≤ length b
   pub sane : Sane w
-  pub since : Since windowOf w₀ b 0 w i
+  pub since : Since false windowOf w₀ b 0 w i
   pub bytes : w .offset + w .seen ≡ w₀ .offset + w₀ .seen + i
 
 pub in-start : (b : List ℕ) (w : Walk) → Sane w → In b w w 0
 in-start b w s = record { inside = omega arith; sane = s; since = record { texts = []; rest = λ c. c }; bytes = omega arith }
 
-module _ (b : List ℕ) (w₀ w : Walk) (i : ℕ) (out after : List ℕ) (r : Blocked) (I : In b w₀ w i) (C : Called windowOf w b i out 0 after r) where
+module _ (b : List ℕ) (w₀ w : Walk) (i : ℕ) (out after : List ℕ) (r : Blocked) (I : In b w₀ w i) (C : Called false windowOf w b i out 0 after r) where
   pub called-long : length after ≡ length out
-  called-long = ap length (C .text) ∙ length-sets out 0 (linesOf (callOf windowOf w b i out 0 .entries))
+  called-long = ap length (C .text) ∙ length-sets out 0 (linesOf false (callOf false windowOf w b i out 0 .entries))
 
   pub called-sane : Sane (r .state)
-  called-sane = rw (C .end) (kept windowOf (length b - i) (length out - 0) w b i (I .inside) .sane (I .sane))
+  called-sane = rw (C .end) (kept false windowOf (length b - i) (length out - 0) w b i (I .inside) .sane (I .sane))
 
   pub called-in : In b w₀ (r .state) (r .from)
   called-in =
-      let k = kept windowOf (length b - i) (length out - 0) w b i (I .inside) in
-      let x : r .state ≡ callOf windowOf w b i out 0 .state = ap (λ (z : Blocked). z .state) (C .end) in
-      let y : r .from ≡ callOf windowOf w b i out 0 .from = ap (λ (z : Blocked). z .from) (C .end) in
+      let k = kept false windowOf (length b - i) (length out - 0) w b i (I .inside) in
+      let x : r .state ≡ callOf false windowOf w b i out 0 .state = ap (λ (z : Blocked). z .state) (C .end) in
+      let y : r .from ≡ callOf false windowOf w b i out 0 .from = ap (λ (z : Blocked). z .from) (C .end) in
       record {
         inside = rw y (k .within);
         sane = called-sane;
@@ -53,8 +53,8 @@ module _ (b : List ℕ) (w₀ w : Walk) (i : ℕ) (out after : List ℕ) (r : Bl
 
   pub called-went : i < length b → 137 ≤ length out → stopsOf (r .why) ≡ false → i < r .from
   called-went h l s =
-      let y : r .why ≡ callOf windowOf w b i out 0 .why = ap (λ (z : Blocked). z .why) (C .end) in
-      rw (C .end) (went windowOf (length b - i) (length out - 0) w b i h (omega arith) (omega arith) (sym (ap stopsOf y) ∙ s))
+      let y : r .why ≡ callOf false windowOf w b i out 0 .why = ap (λ (z : Blocked). z .why) (C .end) in
+      rw (C .end) (went false windowOf (length b - i) (length out - 0) w b i h (omega arith) (omega arith) (sym (ap stopsOf y) ∙ s))
 
 pub in-end : (b : List ℕ) (w₀ w : Walk) (i : ℕ) → In b w₀ w i → length b ≤ i → 0 < length b → Behind (b ∷ []) w₀ w true true
 in-end b w₀ w i I h g =
@@ -83,13 +83,13 @@ read-some n buf w w' whole more e B = rw (ne-eqb n 0 e) B
 -- from the fresh state on
 pub record Reading (w : Walk) : Type 0 where
   pub pieces : List (List ℕ)
-  pub over : Over windowOf pieces freshOf w
+  pub over : Over false windowOf pieces freshOf w
   pub sane : Sane w
 
 pub reading-start : Reading freshOf
 reading-start = record { pieces = []; over = record { texts = []; rest = λ c. c }; sane = record { bytes = omega arith; counted = omega arith } }
 
-over-again : (ps qs : List (List ℕ)) (w₀ w w' : Walk) → Over windowOf ps w₀ w → Over windowOf qs w w' → Over windowOf (ps ++ qs) w₀ w'
+over-again : (ps qs : List (List ℕ)) (w₀ w w' : Walk) → Over false windowOf ps w₀ w → Over false windowOf qs w w' → Over false windowOf (ps ++ qs) w₀ w'
 over-again ps qs w₀ w w' F G =
     record {
       texts = F .texts ++ G .texts;

@@ -15,7 +15,7 @@ use Rattle.output.specs.Calls.{Over}
 -- a state w' behind w: still sane; where `whole`, calls over the pieces ps and the writes of their texts lie between; where `more`, bytes were walked
 pub record Behind (ps : List (List ℕ)) (w w' : Walk) (whole more : Bool) : Type 0 where
   pub sane : Sane w'
-  pub calls : whole ≡ true → Over windowOf ps w w'
+  pub calls : whole ≡ true → Over false windowOf ps w w'
   pub some : more ≡ true → w .offset + w .seen < w' .offset + w' .seen
   pub all : more ≡ true → whole ≡ true
 

@@ -24,7 +24,7 @@ fn put_block(w: Walk, block: &[u8], out: &mut [u8]) -> Put
     let mut state = w;
     let mut from = 0;
     while from < block.len() {
-        let r = lines::walk_block(state, block, from, out, 0);
+        let r = lines::walk_block(state, block, from, out, 0, false);
         let at = r.at;
         let written = io::write_all(1, &out[..at]);
         let next = r.state;

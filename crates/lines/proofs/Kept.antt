@@ -37,48 +37,48 @@ kept-step w w' n i u r e s K =
 kept-telling : (w : Walk) (n i : ℕ) (en : Entry) (r : Block) → Kept w n i r → Kept w n i (telling en r)
 kept-telling w n i en r K = record { ahead = K .ahead; within = K .within; bytes = K .bytes; sane = K .sane }
 
-module _ (win : List ℕ → Window) where
+module _ (quiet : Bool) (win : List ℕ → Window) where
   kept-after : (k room : ℕ) (w : Walk) (b : List ℕ) (i : ℕ) (st : Stepped) → i ≤ length b → Moved w (drop i b) st
-      → ((room : ℕ) → Kept (st .state) (length b) (i + st .used) (blockOf win k room (st .state) b (i + st .used)))
-      → (a : Answer) → Kept w (length b) i (after win a k room st w b i)
+      → ((room : ℕ) → Kept (st .state) (length b) (i + st .used) (blockOf quiet win k room (st .state) b (i + st .used)))
+      → (a : Answer) → Kept w (length b) i (after quiet win a k room st w b i)
   kept-after k room w b i st h m IH (Frame at size what) =
       kept-telling w (length b) i (record { at = at; size = size; what = what }) _
-      (kept-step w (st .state) (length b) i (st .used) _ (m .bytes) (m .sane) (IH (room - length (lineOf (record { at = at; size = size; what = what })))))
+      (kept-step w (st .state) (length b) i (st .used) _ (m .bytes) (m .sane) (IH (room - length (lineOf quiet (record { at = at; size = size; what = what })))))
   kept-after k room w b i st h m IH WantsMore = kept-step w (st .state) (length b) i (st .used) _ (m .bytes) (m .sane) (IH room)
   kept-after k room w b i st h m IH (Refused n) = kept-stopped w (length b) i Stopped h
 
-  pub kept : (k room : ℕ) (w : Walk) (b : List ℕ) (i : ℕ) → i ≤ length b → Kept w (length b) i (blockOf win k room w b i)
+  pub kept : (k room : ℕ) (w : Walk) (b : List ℕ) (i : ℕ) → i ≤ length b → Kept w (length b) i (blockOf quiet win k room w b i)
   unfolding blockOf
   kept zero room w b i h = kept-stopped w (length b) i Used h
   kept (suc k) room w b i h =
       turn b i room
-      (λ le. rw (block-used win (suc k) room w b i le) (kept-stopped w (length b) i Used h))
-      (λ lt r. rw (block-full win k room w b i lt r) (kept-stopped w (length b) i Full h))
+      (λ le. rw (block-used quiet win (suc k) room w b i le) (kept-stopped w (length b) i Used h))
+      (λ lt r. rw (block-full quiet win k room w b i lt r) (kept-stopped w (length b) i Full h))
       (λ lt r.
       let st = stepOf win w (drop i b) in
       let m = step-moved win w (drop i b) in
-      rw (block-step win k room w b i st lt r refl)
+      rw (block-step quiet win k room w b i st lt r refl)
       (kept-after k room w b i st h m (λ rm. kept k rm (st .state) b (i + st .used) (omega (arith, m .within, length-drop i b))) (st .answer)))
 
   -- a call into a buffer with room for a line goes on, unless a step refuses
   went-after : (k room : ℕ) (w : Walk) (b : List ℕ) (i : ℕ) (st : Stepped) → i + st .used ≤ length b → (a : Answer) → refusesOf a ≡ false
-      → i + st .used ≤ after win a k room st w b i .from
+      → i + st .used ≤ after quiet win a k room st w b i .from
   went-after k room w b i st h (Frame at size what) x =
-      kept k (room - length (lineOf (record { at = at; size = size; what = what }))) (st .state) b (i + st .used) h .ahead
+      kept k (room - length (lineOf quiet (record { at = at; size = size; what = what }))) (st .state) b (i + st .used) h .ahead
   went-after k room w b i st h WantsMore x = kept k room (st .state) b (i + st .used) h .ahead
   went-after k room w b i st h (Refused n) x = absurd (false≢true (sym x))
 
   pub went : (k room : ℕ) (w : Walk) (b : List ℕ) (i : ℕ) → i < length b → length b - i ≤ k → longest ≤ room
-      → stopsOf (blockOf win k room w b i .why) ≡ false → i < blockOf win k room w b i .from
+      → stopsOf (blockOf quiet win k room w b i .why) ≡ false → i < blockOf quiet win k room w b i .from
   went zero room w b i h f r = absurd (omega arith)
   went (suc k) room w b i h f r = go (refusesOf (stepOf win w (drop i b) .answer)) refl
     where
-      go : (x : Bool) → refusesOf (stepOf win w (drop i b) .answer) ≡ x → stopsOf (blockOf win (suc k) room w b i .why) ≡ false
-          → i < blockOf win (suc k) room w b i .from
+      go : (x : Bool) → refusesOf (stepOf win w (drop i b) .answer) ≡ x → stopsOf (blockOf quiet win (suc k) room w b i .why) ≡ false
+          → i < blockOf quiet win (suc k) room w b i .from
       go true x s =
-          let e : stopsOf (blockOf win (suc k) room w b i .why) ≡ true = rw (block-refused win k room w b i (stepOf win w (drop i b)) h r refl x) in
+          let e : stopsOf (blockOf quiet win (suc k) room w b i .why) ≡ true = rw (block-refused quiet win k room w b i (stepOf win w (drop i b)) h r refl x) in
           absurd (false≢true (sym s ∙ e))
       go false x s =
           let u = uses win w b i (stepOf win w (drop i b)) h refl x in
           let a = went-after k room w b i (stepOf win w (drop i b)) (u .1) (stepOf win w (drop i b) .answer) x in
-          rw (block-step win k room w b i (stepOf win w (drop i b)) h r refl) (omega (arith, u .0, a))
+          rw (block-step quiet win k room w b i (stepOf win w (drop i b)) h r refl) (omega (arith, u .0, a))

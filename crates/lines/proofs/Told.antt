@@ -20,7 +20,7 @@ use Rattle.walk.specs.declared.Verdict.the-variants.{Accepted, Bad}
 use Rattle.walk.specs.Walk.{frameSize, verdictOf, countOf, judgeOf}
 use Rattle.walk.specs.Frames.{Entry, accepts}
 use Rattle.text.specs.Decimal.{decimalOf, Wrote}
-use Rattle.text.proofs.Laws.{decimal-20, wrote-none, wrote-append, wrote-as, wrote-long}
+use Rattle.text.proofs.Laws.{wrote-none, wrote-append, wrote-as, wrote-long}
 use Rattle.lines.proofs.Halt.{enum}
 use Rattle.lines.specs.declared.Halt.{Halt}
 use Rattle.lines.specs.declared.Halted.{Halted}
@@ -32,14 +32,14 @@ use Rattle.lines.specs.Whole.{isFull, lookOf, haltedOf, Cutting, entryAt
 
 -- ---- the lines, the accepted and the number of frames that are told one behind the other
 
-pub lines-append : (es fs : List Entry) → linesOf (es ++ fs) ≡ linesOf es ++ linesOf fs
+pub lines-append : (quiet : Bool) (es fs : List Entry) → linesOf quiet (es ++ fs) ≡ linesOf quiet es ++ linesOf quiet fs
 unfolding linesOf
-lines-append [] fs = refl
-lines-append (e ∷ es) fs = rw (lines-append es fs, append-assoc)
+lines-append quiet [] fs = refl
+lines-append quiet (e ∷ es) fs = rw (lines-append quiet es fs, append-assoc)
 
-pub lines-last : (es : List Entry) (e : Entry) → linesOf (es ++ (e ∷ [])) ≡ linesOf es ++ lineOf e
+pub lines-last : (quiet : Bool) (es : List Entry) (e : Entry) → linesOf quiet (es ++ (e ∷ [])) ≡ linesOf quiet es ++ lineOf quiet e
 unfolding linesOf
-lines-last es e = lines-append es (e ∷ []) ∙ rw (append-nil (lineOf e))
+lines-last quiet es e = lines-append quiet es (e ∷ []) ∙ rw (append-nil (lineOf quiet e))
 
 pub accepts-append : (es fs : List Entry) → accepts (es ++ fs) ≡ accepts es + accepts fs
 unfolding accepts
@@ -53,64 +53,61 @@ accepts-last es e = omega (arith, accepts-append es (e ∷ []))
 pub many-last : (es : List Entry) (e : Entry) → length (es ++ (e ∷ [])) ≡ length es + 1
 many-last es e = length-append es (e ∷ [])
 
-module _ (win : List ℕ → Window) (s : List ℕ) (have from offset : ℕ) (out₀ : List ℕ) (to : ℕ) where
+module _ (quiet : Bool) (win : List ℕ → Window) (s : List ℕ) (have from offset : ℕ) (out₀ : List ℕ) (to : ℕ) where
   -- so many accepted frames were told, up to place i, and their lines are in the buffer
   pub record Telling (out : List ℕ) (i o count : ℕ) : Type 0 where
     pub entries : List Entry
-    pub frames : Frames win s have from offset (length out₀) to entries i
+    pub frames : Frames quiet win s have from offset (length out₀) to entries i
     pub many : length entries ≡ count
     pub all : accepts entries ≡ count
-    pub text : Wrote (linesOf entries) out₀ to out o
+    pub text : Wrote (linesOf quiet entries) out₀ to out o
     pub ahead : from + count ≤ i
     pub within : i ≤ have
+    pub wide : longest ≤ length out₀
 
-  pub telling-start : from ≤ have → to ≤ length out₀ → Telling out₀ from to 0
+  pub telling-start : from ≤ have → to ≤ length out₀ → longest ≤ length out₀ → Telling out₀ from to 0
   unfolding linesOf accepts
-  telling-start h g =
-      record { entries = []; frames = none; many = refl; all = refl; text = wrote-none out₀ to g; ahead = omega arith; within = h }
+  telling-start h g w =
+      record { entries = []; frames = none; many = refl; all = refl; text = wrote-none out₀ to g; ahead = omega arith; within = h; wide = w }
 
   module _ (out : List ℕ) (i o count : ℕ) (T : Telling out i o count) where
     -- no further accepted frame, for whatever reason
-    halts : (after : List ℕ) (a : ℕ) (why : Halt) → Halting win s have from offset out₀ to (T .entries) i after a why
-        → Halts win s have from offset out₀ to after (record { at = i; to = a; count = count; why = why })
-    halts after a why h = record { entries = T .entries; frames = T .frames; many = T .many; all = T .all; why = h }
+    halts : (why : Halt) → Halting win s have (length out₀) i o why → Halts quiet win s have from offset out₀ to out (record { at = i; to = o; count = count; why = why })
+    halts why h = record { entries = T .entries; frames = T .frames; many = T .many; all = T .all; text = T .text; why = h }
 
-    pub telling-cut : Cutting s have i → (i < have → longest ≤ length out - o)
-        → Halts win s have from offset out₀ to out (record { at = i; to = o; count = count; why = Cut })
-    telling-cut h space = halts out o Cut (cut h (λ l. omega (arith, space l, T .text .inside, wrote-long (T .text))) (T .text))
+    pub telling-cut : Cutting s have i → (i < have → o ≤ length out₀ - longest)
+        → Halts quiet win s have from offset out₀ to out (record { at = i; to = o; count = count; why = Cut })
+    telling-cut h space = halts Cut (cut h (λ l. omega (arith, space l, T .wide)))
 
-    pub telling-full : i < have → length out - o < longest → Halts win s have from offset out₀ to out (record { at = i; to = o; count = count; why = Full })
-    telling-full h r = halts out o Full (full h (omega (arith, wrote-long (T .text))) (T .text))
+    pub telling-full : i < have → length out₀ - longest < o → Halts quiet win s have from offset out₀ to out (record { at = i; to = o; count = count; why = Full })
+    telling-full h r = halts Full (full h (omega (arith, r, T .wide)))
 
-    -- a frame of this size begins here and ends within the bytes, and the offset of its line is put
-    module _ (size : ℕ) (E : Ends s have i) (z : size ≡ frameSize (drop i s)) (space : longest ≤ length out - o) (out' : List ℕ) (a : ℕ)
-        (p : Wrote (decimalOf (offset + (i - from))) out o out' a) where
-      roomy : to + length (linesOf (T .entries)) + longest ≤ length out₀
-      roomy = omega (arith, T .text .next, T .text .inside, wrote-long (T .text))
-
+    -- a frame of this size begins here and ends within the bytes
+    module _ (size : ℕ) (E : Ends s have i) (z : size ≡ frameSize (drop i s)) (space : o ≤ length out₀ - longest) where
       pub telling-refused : (v : Verdict) → v ≡ judgeOf win (drop i s) size → (number place : ℕ) → lookOf v ≡ Ill number place
-          → Halts win s have from offset out₀ to out' (haltedOf i a count (lookOf v) size)
+          → Halts quiet win s have from offset out₀ to out (haltedOf i o count (lookOf v) size)
       telling-refused (Accepted m) e _ _ n = let x : _≡_ {A = ℕ} 0 1 = cc in absurd (omega arith)
       telling-refused (Bad number place) e _ _ n =
           let j : judgeOf win (drop i s) (frameSize (drop i s)) ≡ Bad number place = rw z at (sym e) in
-          halts out' a (Refused number place size) (rw z (refused number place E roomy j (wrote-append (T .text) p)))
+          halts (Refused number place size) (rw z (refused number place E (omega (arith, space, T .wide)) j))
 
-      pub telling-more : (m : Message) → judgeOf win (drop i s) size ≡ Accepted m → (out'' : List ℕ) (o' : ℕ) → Wrote (acceptedOf (m .tag) size) out' a out'' o'
-          → Telling out'' (i + size) o' (count + 1)
+      pub telling-more : (m : Message) → judgeOf win (drop i s) size ≡ Accepted m → (out' : List ℕ) (o' : ℕ)
+          → Wrote (cond quiet [] (decimalOf (offset + (i - from)) ++ acceptedOf (m .tag) size)) out o out' o' → Telling out' (i + size) o' (count + 1)
       unfolding lineOf
-      telling-more m e out'' o' q =
+      telling-more m e out' o' q =
           let en = entryAt win s from offset i in
           let j : judgeOf win (drop i s) (frameSize (drop i s)) ≡ Accepted m = rw z at e in
-          let q' : Wrote (acceptedOf (m .tag) (frameSize (drop i s))) out' a out'' o' = rw z at q in
-          let line : Wrote (lineOf en) out o out'' o' = rw j (wrote-append p q') in
+          let q' : Wrote (cond quiet [] (decimalOf (offset + (i - from)) ++ acceptedOf (m .tag) (frameSize (drop i s)))) out o out' o' = rw z at q in
+          let line : Wrote (lineOf quiet en) out o out' o' = rw j q' in
           record {
             entries = T .entries ++ (en ∷ []);
-            frames = rw z (more (T .frames) E roomy);
+            frames = rw z (more (T .frames) E (omega (arith, space, T .text .next, T .wide)));
             many = omega (arith, many-last (T .entries) en, T .many);
             all = omega (arith, accepts-last (T .entries) en, T .all, ap countOf j);
-            text = wrote-as (lines-last (T .entries) en) (wrote-append (T .text) line);
+            text = wrote-as (lines-last quiet (T .entries) en) (wrote-append (T .text) line);
             ahead = omega (arith, T .ahead);
             within = omega (arith, E .whole, E .before);
+            wide = T .wide;
           }
 
 -- an accepted frame's size has two digits
@@ -132,9 +129,9 @@ accepted-size s size m = go (windowOf (take (min size 52) s)) refl
 
 -- ---- the loop over all frames
 
-module _ (win : List ℕ → Window) (s : List ℕ) (have : ℕ) where
+module _ (quiet : Bool) (win : List ℕ → Window) (s : List ℕ) (have : ℕ) where
   -- each frame has two bytes or more
-  pub frames-far : {from offset long to j : ℕ} {es : List Entry} → from ≤ have → Frames win s have from offset long to es j
+  pub frames-far : {from offset long to j : ℕ} {es : List Entry} → from ≤ have → Frames quiet win s have from offset long to es j
       → (from + 2 * length es ≤ j) × (j ≤ have)
   frames-far h none = (omega arith, h)
   frames-far {from} {offset} {long} {to} h (more {es} {j} F E r) =
@@ -142,21 +139,21 @@ module _ (win : List ℕ → Window) (s : List ℕ) (have : ℕ) where
       (omega (arith, f .0, many-last es (entryAt win s from offset j)), omega (arith, E .whole, E .before))
 
   -- frames, and more frames behind them
-  pub frames-join : {from offset long to i off o end : ℕ} {ds es : List Entry} → from ≤ i → off ≡ offset + (i - from) → o ≡ to + length (linesOf ds)
-      → i ≤ have → Frames win s have from offset long to ds i → Frames win s have i off long o es end → Frames win s have from offset long to (ds ++ es) end
+  pub frames-join : {from offset long to i off o end : ℕ} {ds es : List Entry} → from ≤ i → off ≡ offset + (i - from) → o ≡ to + length (linesOf quiet ds)
+      → i ≤ have → Frames quiet win s have from offset long to ds i → Frames quiet win s have i off long o es end → Frames quiet win s have from offset long to (ds ++ es) end
   frames-join {from} {offset} {long} {to} {i} {off} {o} {end} {ds} h e t w F none = rw (append-nil ds) F
   frames-join {from} {offset} {long} {to} {i} {off} {o} {end} {ds} h e t w F (more {es} {j} G E r) =
       let f = frames-far w G in
       let at : off + (j - i) ≡ offset + (j - from) = omega (arith, e, f .0) in
-      let lines = ap length (lines-append ds es) ∙ length-append (linesOf ds) (linesOf es) in
+      let lines = ap length (lines-append quiet ds es) ∙ length-append (linesOf quiet ds) (linesOf quiet es) in
       rw (at, ← append-assoc ds es (entryAt win s from offset j ∷ [])) (more (frames-join h e t w F G) E (omega (arith, r, t, lines)))
 
-module _ (win : List ℕ → Window) (s : List ℕ) (have from offset frames accepted : ℕ) (out₀ : List ℕ) (to : ℕ) where
+module _ (quiet : Bool) (win : List ℕ → Window) (s : List ℕ) (have from offset frames accepted : ℕ) (out₀ : List ℕ) (to : ℕ) where
   -- these frames were told, up to place i, and counted
   pub record Passing (out : List ℕ) (i o off fr acc : ℕ) : Type 0 where
     pub entries : List Entry
-    pub run : Frames win s have from offset (length out₀) to entries i
-    pub text : Wrote (linesOf entries) out₀ to out o
+    pub run : Frames quiet win s have from offset (length out₀) to entries i
+    pub text : Wrote (linesOf quiet entries) out₀ to out o
     pub past : off ≡ offset + (i - from)
     pub told : fr ≡ frames + length entries
     pub good : acc ≡ accepted + accepts entries
@@ -181,18 +178,18 @@ module _ (win : List ℕ → Window) (s : List ℕ) (have from offset frames acc
         counted = c;
       }
 
-  module _ (out : List ℕ) (i o off fr acc : ℕ) (P : Passing out i o off fr acc) (out' : List ℕ) (r : Halted) (H : Halts win s have i off out o out' r) where
+  module _ (out : List ℕ) (i o off fr acc : ℕ) (P : Passing out i o off fr acc) (out' : List ℕ) (r : Halted) (H : Halts quiet win s have i off out o out' r) where
     long : length out ≡ length out₀
     long = wrote-long (P .text)
 
     pub far : (i + 2 * r .count ≤ r .at) × (r .at ≤ have)
-    far = rw (H .many) at (frames-far win s have (P .within) (H .frames))
+    far = rw (H .many) at (frames-far quiet win s have (P .within) (H .frames))
 
-    both : Frames win s have from offset (length out₀) to (P .entries ++ H .entries) (r .at)
-    both = frames-join win s have (P .ahead) (P .past) (P .text .next) (P .within) (P .run) (rw long at (H .frames))
+    both : Frames quiet win s have from offset (length out₀) to (P .entries ++ H .entries) (r .at)
+    both = frames-join quiet win s have (P .ahead) (P .past) (P .text .next) (P .within) (P .run) (rw long at (H .frames))
 
-    all-lines : linesOf (P .entries ++ H .entries) ≡ linesOf (P .entries) ++ linesOf (H .entries)
-    all-lines = lines-append (P .entries) (H .entries)
+    all-lines : linesOf quiet (P .entries ++ H .entries) ≡ linesOf quiet (P .entries) ++ linesOf quiet (H .entries)
+    all-lines = lines-append quiet (P .entries) (H .entries)
 
     many-both : length (P .entries ++ H .entries) ≡ length (P .entries) + r .count
     many-both = length-append (P .entries) (H .entries) ∙ ap (λ (n : ℕ). length (P .entries) + n) (H .many)
@@ -203,19 +200,19 @@ module _ (win : List ℕ → Window) (s : List ℕ) (have from offset frames acc
     -- no further: cut, or no room
     abbrev Gone-here : Bool → Type 0
     Gone-here b =
-        Goes win s have from offset frames accepted out₀ to out'
+        Goes quiet win s have from offset frames accepted out₀ to out'
         (record { at = r .at; to = r .to; offset = off + (r .at - i); frames = fr + r .count; accepted = acc + r .count; full = b })
 
     pub passing-ends : (b : Bool) → b ≡ isFull (r .why) → ((number place size : ℕ) → r .why ≡ Refused number place size → ⊥) → Gone-here b
     passing-ends b e not-bad = go (r .why) (H .why) refl
       where
-        ended : Wrote (linesOf (H .entries)) out o out' (r .to) → (b ≡ false → Cutting s have (r .at) × (r .at < have → r .to + longest ≤ length out₀))
+        ended : (b ≡ false → Cutting s have (r .at) × (r .at < have → r .to + longest ≤ length out₀))
             → (b ≡ true → (r .at < have) × (length out₀ < r .to + longest)) → Gone-here b
-        ended w c f =
+        ended c f =
             record {
               entries = P .entries ++ H .entries;
               run = both;
-              text = wrote-as all-lines (wrote-append (P .text) w);
+              text = wrote-as all-lines (wrote-append (P .text) (H .text));
               past = omega (arith, P .past, P .ahead, far .0);
               told = omega (arith, P .told, many-both);
               good = omega (arith, P .good, good-both);
@@ -223,37 +220,38 @@ module _ (win : List ℕ → Window) (s : List ℕ) (have from offset frames acc
               full = f;
             }
 
-        go : (h : Halt) → Halting win s have i off out o (H .entries) (r .at) out' (r .to) h → r .why ≡ h → Gone-here b
-        go _ (cut c space w) y = ended w (λ _. (c, λ l. omega (arith, space l, long))) (λ t. absurd (false≢true (sym (e ∙ ap isFull y) ∙ t)))
-        go _ (full lt room w) y = ended w (λ f. absurd (false≢true (sym f ∙ e ∙ ap isFull y))) (λ _. (lt, omega (arith, room, long)))
-        go _ (refused number place E room j w) y = absurd (not-bad number place _ y)
+        go : (h : Halt) → Halting win s have (length out) (r .at) (r .to) h → r .why ≡ h → Gone-here b
+        go _ (cut c space) y = ended (λ _. (c, λ l. omega (arith, space l, long))) (λ t. absurd (false≢true (sym (e ∙ ap isFull y) ∙ t)))
+        go _ (full lt room) y = ended (λ f. absurd (false≢true (sym f ∙ e ∙ ap isFull y))) (λ _. (lt, omega (arith, room, long)))
+        go _ (refused number place E room j) y = absurd (not-bad number place _ y)
 
-    -- a refused frame: the rest of its line is put, and the frames behind it follow
-    pub passing-on : (number place size : ℕ) → r .why ≡ Refused number place size → (out'' : List ℕ) (o' : ℕ) → Wrote (refusedOf number place) out' (r .to) out'' o'
+    -- a refused frame: its line is put, and the frames behind it follow
+    pub passing-on : (number place size : ℕ) → r .why ≡ Refused number place size → (out'' : List ℕ) (o' : ℕ)
+        → Wrote (decimalOf (off + (r .at - i)) ++ refusedOf number place) out' (r .to) out'' o'
         → Passing out'' (r .at + size) o' (off + (r .at - i) + size) (fr + r .count + 1) (acc + r .count)
     unfolding lineOf
     passing-on number place size y out'' o' q = go (r .why) (H .why) y
       where
-        go : (h : Halt) → Halting win s have i off out o (H .entries) (r .at) out' (r .to) h → h ≡ Refused number place size
+        go : (h : Halt) → Halting win s have (length out) (r .at) (r .to) h → h ≡ Refused number place size
             → Passing out'' (r .at + size) o' (off + (r .at - i) + size) (fr + r .count + 1) (acc + r .count)
-        go _ (cut c space w) z = let x : _≡_ {A = ℕ} 0 1 = cc in absurd (omega arith)
-        go _ (full lt room w) z = let x : _≡_ {A = ℕ} 0 1 = cc in absurd (omega arith)
-        go _ (refused n p E room j w) z =
+        go _ (cut c space) z = let x : _≡_ {A = ℕ} 0 1 = cc in absurd (omega arith)
+        go _ (full lt room) z = let x : _≡_ {A = ℕ} 0 1 = cc in absurd (omega arith)
+        go _ (refused n p E room j) z =
             let nn : n ≡ number = cc in
             let pp : p ≡ place = cc in
             let ss : frameSize (drop (r .at) s) ≡ size = cc in
             let en = entryAt win s from offset (r .at) in
             let at : offset + (r .at - from) ≡ off + (r .at - i) = omega (arith, P .past, P .ahead, far .0) in
-            let line : lineOf en ≡ decimalOf (off + (r .at - i)) ++ refusedOf number place = rw (at, j, nn, pp) in
-            let lines : linesOf ((P .entries ++ H .entries) ++ (en ∷ []))
-            ≡ (linesOf (P .entries) ++ (linesOf (H .entries) ++ decimalOf (off + (r .at - i)))) ++ refusedOf number place =
-            lines-last (P .entries ++ H .entries) en ∙ rw (all-lines, line) (simp append-assoc) in
-            let many = ap length all-lines ∙ length-append (linesOf (P .entries)) (linesOf (H .entries)) in
+            let line : lineOf quiet en ≡ decimalOf (off + (r .at - i)) ++ refusedOf number place = rw (at, j, nn, pp) in
+            let lines : linesOf quiet ((P .entries ++ H .entries) ++ (en ∷ []))
+            ≡ (linesOf quiet (P .entries) ++ linesOf quiet (H .entries)) ++ (decimalOf (off + (r .at - i)) ++ refusedOf number place) =
+            lines-last quiet (P .entries ++ H .entries) en ∙ rw (all-lines, line) in
+            let many = ap length all-lines ∙ length-append (linesOf quiet (P .entries)) (linesOf quiet (H .entries)) in
             rw (← ss)
             (record {
               entries = (P .entries ++ H .entries) ++ (en ∷ []);
-              run = more both E (omega (arith, room, long, P .text .next, many));
-              text = wrote-as lines (wrote-append (wrote-append (P .text) w) q);
+              run = more both E (omega (arith, room, long, P .text .next, H .text .next, many));
+              text = wrote-as lines (wrote-append (wrote-append (P .text) (H .text)) q);
               past = omega (arith, P .past, P .ahead, far .0);
               told = omega (arith, P .told, many-both, many-last (P .entries ++ H .entries) en);
               good = omega (arith, P .good, good-both, accepts-last (P .entries ++ H .entries) en, ap countOf j);
@@ -263,28 +261,19 @@ module _ (win : List ℕ → Window) (s : List ℕ) (have from offset frames acc
               counted = omega (arith, P .counted);
             })
 
--- where the lines stop, the buffer is as long as before; at a refused frame there is room for the rest of its line
-module _ {win : List ℕ → Window} {s : List ℕ} {have i off : ℕ} {out : List ℕ} {o : ℕ} {out' : List ℕ} {r : Halted} (H : Halts win s have i off out o out' r) where
-  pub halts-long : length out' ≡ length out
-  halts-long = go (H .why)
-    where
-      go : {h : Halt} → Halting win s have i off out o (H .entries) (r .at) out' (r .to) h → length out' ≡ length out
-      go (cut c space w) = wrote-long w
-      go (full lt room w) = wrote-long w
-      go (refused number place E room j w) = wrote-long w
-
-  pub halts-bad : (number place size : ℕ) → r .why ≡ Refused number place size → off + (r .at - i) < 2 ^ 64
-      → (r .to + 51 ≤ length out') × (r .at < have) × (size ≤ have - r .at) × (2 ≤ size)
-  halts-bad number place size y f = go (r .why) (H .why) y
-    where
-      go : (h : Halt) → Halting win s have i off out o (H .entries) (r .at) out' (r .to) h → h ≡ Refused number place size
-          → (r .to + 51 ≤ length out') × (r .at < have) × (size ≤ have - r .at) × (2 ≤ size)
-      go _ (cut c space w) z = let x : _≡_ {A = ℕ} 0 1 = cc in absurd (omega arith)
-      go _ (full lt room w) z = let x : _≡_ {A = ℕ} 0 1 = cc in absurd (omega arith)
-      go _ (refused n p E room j w) z =
-          let ss : frameSize (drop (r .at) s) ≡ size = cc in
-          let l = length-append (linesOf (H .entries)) (decimalOf (off + (r .at - i))) in
-          (omega (arith, room, w .next, l, decimal-20 (off + (r .at - i)) f, wrote-long w), E .before, omega (arith, E .whole, ss), omega (arith, ss))
+-- at a refused frame there is room for its line
+pub halts-bad : {quiet : Bool} {win : List ℕ → Window} {s : List ℕ} {have i off : ℕ} {out : List ℕ} {o : ℕ} {out' : List ℕ} {r : Halted}
+    → Halts quiet win s have i off out o out' r → (number place size : ℕ) → r .why ≡ Refused number place size
+    → (r .to + longest ≤ length out') × (r .at < have) × (size ≤ have - r .at) × (2 ≤ size)
+halts-bad {quiet} {win} {s} {have} {i} {off} {out} {o} {out'} {r} H number place size y = go (r .why) (H .why) y
+  where
+    go : (h : Halt) → Halting win s have (length out) (r .at) (r .to) h → h ≡ Refused number place size
+        → (r .to + longest ≤ length out') × (r .at < have) × (size ≤ have - r .at) × (2 ≤ size)
+    go _ (cut c space) z = let x : _≡_ {A = ℕ} 0 1 = cc in absurd (omega arith)
+    go _ (full lt room) z = let x : _≡_ {A = ℕ} 0 1 = cc in absurd (omega arith)
+    go _ (refused n p E room j) z =
+        let ss : frameSize (drop (r .at) s) ≡ size = cc in
+        (omega (arith, room, wrote-long (H .text)), E .before, omega (arith, E .whole, ss), omega (arith, ss))
 
 -- where a `let .. else` went to its else, by the keys that the match has there
 pub not-bad : {h : Halt} → OneOf (0 ∷ 1 ∷ []) (tagOf (declared enum) h) → (number place size : ℕ) → h ≡ Refused number place size → ⊥

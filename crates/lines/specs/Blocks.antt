@@ -1,4 +1,4 @@
--- The frames that end in a block, as many as a lent buffer has room for.
+-- The frames that end in a block, as many as a lent buffer has room for. Whether quiet or not, a frame is told of only where the longest line has room.
 -- Assumes nothing.
 use Prim.Native.Nat.{ℕ, zero, suc, _+_, _-_, _^_, _≤_, _<_}
 use mathlib.Core.Path.{_≡_}
@@ -23,10 +23,10 @@ abbrev pub longest : ℕ
 longest = 72
 
 -- the text of an answer
-abbrev pub toldOf : Answer → List ℕ
-toldOf (Frame at size what) = lineOf (record { at = at; size = size; what = what })
-toldOf WantsMore = []
-toldOf (Refused number) = []
+abbrev pub lineFor : Bool → Answer → List ℕ
+lineFor quiet (Frame at size what) = lineOf quiet (record { at = at; size = size; what = what })
+lineFor quiet WantsMore = []
+lineFor quiet (Refused number) = []
 
 -- whether it is a refusal
 abbrev pub refusesOf : Answer → Bool
@@ -43,8 +43,8 @@ stopsOf Stopped = true
 abbrev pub startOf : ℕ → ℕ → ℕ → Walk
 startOf offset frames accepted = record { offset = offset; seen = 0; held = replicate 52 0; frames = frames; accepted = accepted }
 
-abbrev pub cutOf : Walk → List ℕ → Walk
-cutOf w p = moreOf w (put (w .held) (w .seen) p) (length p) .state
+abbrev pub pausedOf : Walk → List ℕ → Walk
+pausedOf w p = moreOf w (put (w .held) (w .seen) p) (length p) .state
 
 -- the frames told of, the state behind them, where in the block, and why no further
 pub record Block : Type 0 where
@@ -71,19 +71,19 @@ pub record Sane (w : Walk) : Type 0 where
   pub counted : w .accepted ≤ w .frames
 
 -- what a call leaves: in the buffer, and as its answer
-abbrev pub leftOf : List ℕ → ℕ → Block → List ℕ
-leftOf out at r = sets out at (linesOf (r .entries))
+abbrev pub leftOf : Bool → List ℕ → ℕ → Block → List ℕ
+leftOf quiet out at r = sets out at (linesOf quiet (r .entries))
 
-abbrev pub endOf : ℕ → Block → Blocked
-endOf at r = record { state = r .state; from = r .from; at = at + length (linesOf (r .entries)); why = r .why }
+abbrev pub endOf : Bool → ℕ → Block → Blocked
+endOf quiet at r = record { state = r .state; from = r .from; at = at + length (linesOf quiet (r .entries)); why = r .why }
 
-module _ (win : List ℕ → Window) where
+module _ (quiet : Bool) (win : List ℕ → Window) where
   -- the steps from place i of the block b on, at most k of them, into a buffer with `room` bytes left
   unfoldable pub blockOf : ℕ → ℕ → Walk → List ℕ → ℕ → Block
   blockOf zero room w b i = stopped w i Used
   blockOf (suc k) room w b i =
       let st = stepOf win w (drop i b) in
-      let frame : Entry → Block = λ e. telling e (blockOf k (room - length (lineOf e)) (st .state) b (i + st .used)) in
+      let frame : Entry → Block = λ e. telling e (blockOf k (room - length (lineOf quiet e)) (st .state) b (i + st .used)) in
       let more = blockOf k room (st .state) b (i + st .used) in
       cond (ltb i (length b)) (cond (ltb room longest) (stopped w i Full) (followed (st .answer) frame more (stopped w i Stopped))) (stopped w i Used)
 
@@ -92,6 +92,6 @@ module _ (win : List ℕ → Window) where
   callOf w b i out at = blockOf (length b - i) (length out - at) w b i
 
   pub record Called (w : Walk) (b : List ℕ) (i : ℕ) (out : List ℕ) (at : ℕ) (after : List ℕ) (r : Blocked) : Type 0 where
-    pub text : after ≡ leftOf out at (callOf w b i out at)
-    pub end : r ≡ endOf at (callOf w b i out at)
+    pub text : after ≡ leftOf quiet out at (callOf w b i out at)
+    pub end : r ≡ endOf quiet at (callOf w b i out at)
     pub inside : at ≤ length out → r .at ≤ length out

@@ -1,6 +1,7 @@
--- What `frames` prints, as bytes.
+-- What `frames` prints, as bytes. Where `quiet`, the lines of accepted frames are left out; those of refused frames and the closing lines stay.
 -- Assumes nothing.
 use Prim.Native.Nat.{ℕ, _+_, _-_}
+use mathlib.Core.Bool.{Bool, false, cond}
 use mathlib.Core.List.{List, [], _∷_, _++_}
 use lib.ListN.{length}
 use Rattle.text.specs.Decimal.{decimalOf, behind}
@@ -32,12 +33,17 @@ abbrev pub answerOf : Verdict → ℕ → List ℕ
 answerOf (Accepted m) size = acceptedOf (m .tag) size
 answerOf (Bad number place) size = refusedOf number place
 
-unfoldable pub lineOf : Entry → List ℕ
-lineOf e = decimalOf (e .at) ++ answerOf (e .what) (e .size)
+-- whether a frame's line is left out
+abbrev pub silentOf : Bool → Verdict → Bool
+silentOf quiet (Accepted m) = quiet
+silentOf quiet (Bad number place) = false
 
-unfoldable pub linesOf : List Entry → List ℕ
-linesOf [] = []
-linesOf (e ∷ es) = lineOf e ++ linesOf es
+unfoldable pub lineOf : Bool → Entry → List ℕ
+lineOf quiet e = cond (silentOf quiet (e .what)) [] (decimalOf (e .at) ++ answerOf (e .what) (e .size))
+
+unfoldable pub linesOf : Bool → List Entry → List ℕ
+linesOf quiet [] = []
+linesOf quiet (e ∷ es) = lineOf quiet e ++ linesOf quiet es
 
 -- the tail's offset and length
 unfoldable pub tailOf : ℕ → ℕ → List ℕ
@@ -52,5 +58,5 @@ abbrev pub closingOf : ℕ → ℕ → ℕ → ℕ → List ℕ
 closingOf offset left frames accepted = tailOf offset left ++ totalOf frames accepted (frames - accepted) (offset + left)
 
 -- the whole output on a recording whose walk is r
-unfoldable pub textOf : Walked → List ℕ
-textOf r = linesOf (r .entries) ++ closingOf (r .tail) (r .left) (length (r .entries)) (accepts (r .entries))
+unfoldable pub textOf : Bool → Walked → List ℕ
+textOf quiet r = linesOf quiet (r .entries) ++ closingOf (r .tail) (r .left) (length (r .entries)) (accepts (r .entries))

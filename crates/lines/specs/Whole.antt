@@ -11,7 +11,7 @@ use Rattle.walk.specs.declared.Verdict.{Verdict}
 use Rattle.walk.specs.declared.Verdict.the-variants.{Accepted, Bad}
 use Rattle.walk.specs.Walk.{frameSize, judgeOf}
 use Rattle.walk.specs.Frames.{Entry, accepts}
-use Rattle.text.specs.Decimal.{twoOf, decimalOf, Wrote}
+use Rattle.text.specs.Decimal.{twoOf, Wrote}
 use Rattle.lines.specs.declared.Halt.{Halt}
 use Rattle.lines.specs.declared.Halt.the-variants.{Cut, Full, Bad as Refused}
 use Rattle.lines.specs.declared.Halted.{Halted}
@@ -47,12 +47,14 @@ haltedOf at to count (Tag tag) size = record { at = at; to = to; count = count; 
 abbrev pub Cutting : List ℕ → ℕ → ℕ → Type 0
 Cutting s have i = (have ≤ i) ⊎ (length s ≤ i + 1) ⊎ (have - i < frameSize (drop i s))
 
--- what the loops over s are asked with: the offsets fit 64 bits, the table is that of the digits, and `to` is within a buffer of `long` bytes
+-- what the loops over s are asked with: the offsets fit 64 bits, the table is that of the digits, and `to` is within a buffer of `long` bytes, which has room
+-- for a line
 pub record Asked (s : List ℕ) (have from offset : ℕ) (table : List ℕ) (long to : ℕ) : Type 0 where
   pub begun : from ≤ have
   pub fits : offset + (have - from) < 2 ^ 64
   pub digits : table ≡ pairs
   pub inside : to ≤ long
+  pub wide : longest ≤ long
 
 -- a frame begins at place j and ends within the first `have` bytes
 pub record Ends (s : List ℕ) (have j : ℕ) : Type 0 where
@@ -66,20 +68,19 @@ module _ (win : List ℕ → Window) where
   entryAt s from offset j =
       record { at = offset + (j - from); size = frameSize (drop j s); what = judgeOf win (drop j s) (frameSize (drop j s)) }
 
+  -- why no line of an accepted frame follows those up to place j, which end at r in a buffer of `long` bytes
+  pub data Halting (s : List ℕ) (have long j r : ℕ) : Halt → Type 0 where
+    cut : Cutting s have j → (j < have → r + longest ≤ long) → Halting s have long j r Cut
+    full : j < have → long < r + longest → Halting s have long j r Full
+    refused : (number place : ℕ) → Ends s have j → r + longest ≤ long → judgeOf win (drop j s) (frameSize (drop j s)) ≡ Bad number place
+        → Halting s have long j r (Refused number place (frameSize (drop j s)))
+
+module _ (quiet : Bool) (win : List ℕ → Window) where
   -- the frames between two places, each with room for its line in a buffer of `long` bytes, the first line at `to`
   pub data Frames (s : List ℕ) (have from offset long to : ℕ) : List Entry → ℕ → Type 0 where
     none : Frames s have from offset long to [] from
-    more : {es : List Entry} {j : ℕ} → Frames s have from offset long to es j → Ends s have j → to + length (linesOf es) + longest ≤ long
-        → Frames s have from offset long to (es ++ (entryAt s from offset j ∷ [])) (j + frameSize (drop j s))
-
-  -- why no line follows those of the entries es up to place j, and what is in the buffer
-  pub data Halting (s : List ℕ) (have from offset : ℕ) (out : List ℕ) (to : ℕ) (es : List Entry) (j : ℕ) (after : List ℕ) (r : ℕ) : Halt → Type 0 where
-    cut : Cutting s have j → (j < have → r + longest ≤ length out) → Wrote (linesOf es) out to after r → Halting s have from offset out to es j after r Cut
-    full : j < have → length out < r + longest → Wrote (linesOf es) out to after r → Halting s have from offset out to es j after r Full
-    refused : (number place : ℕ) → Ends s have j → to + length (linesOf es) + longest ≤ length out
-        → judgeOf win (drop j s) (frameSize (drop j s)) ≡ Bad number place
-        → Wrote (linesOf es ++ decimalOf (offset + (j - from))) out to after r
-        → Halting s have from offset out to es j after r (Refused number place (frameSize (drop j s)))
+    more : {es : List Entry} {j : ℕ} → Frames s have from offset long to es j → Ends s have j → to + length (linesOf quiet es) + longest ≤ long
+        → Frames s have from offset long to (es ++ (entryAt win s from offset j ∷ [])) (j + frameSize (drop j s))
 
   -- the lines of accepted frames
   pub record Halts (s : List ℕ) (have from offset : ℕ) (out : List ℕ) (to : ℕ) (after : List ℕ) (r : Halted) : Type 0 where
@@ -87,13 +88,14 @@ module _ (win : List ℕ → Window) where
     pub frames : Frames s have from offset (length out) to entries (r .at)
     pub many : length entries ≡ r .count
     pub all : accepts entries ≡ r .count
-    pub why : Halting s have from offset out to entries (r .at) after (r .to) (r .why)
+    pub text : Wrote (linesOf quiet entries) out to after (r .to)
+    pub why : Halting win s have (length out) (r .at) (r .to) (r .why)
 
   -- the lines of all frames
   pub record Goes (s : List ℕ) (have from offset frames accepted : ℕ) (out : List ℕ) (to : ℕ) (after : List ℕ) (r : Gone) : Type 0 where
     pub entries : List Entry
     pub run : Frames s have from offset (length out) to entries (r .at)
-    pub text : Wrote (linesOf entries) out to after (r .to)
+    pub text : Wrote (linesOf quiet entries) out to after (r .to)
     pub past : r .offset ≡ offset + (r .at - from)
     pub told : r .frames ≡ frames + length entries
     pub good : r .accepted ≡ accepted + accepts entries

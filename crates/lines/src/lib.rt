@@ -1,6 +1,6 @@
-// The lines of `frames`, put into a lent buffer: a line for each frame that ends in a block.
+// The lines of `frames`, put into a lent buffer: a line for each frame that ends in a block, or, where `quiet`, for each refused one alone.
 ghost use Prim.Native.Nat.{_+_, _-_, _*_, _^_, _≤_, _<_};
-ghost use mathlib.Core.Bool.{true};
+ghost use mathlib.Core.Bool.{true, cond};
 ghost use mathlib.Core.List.{[], _∷_, _++_};
 ghost use mathlib.Core.Path.{_≡_};
 ghost use lib.ListN.{length};
@@ -9,7 +9,7 @@ ghost use Rattle.walk.specs.Walk.{readyOf, judgeOf};
 ghost use Rattle.plain.specs.Plain.{Table};
 ghost use Rattle.text.specs.Decimal.{twoOf, fourOf, decimalOf, Wrote};
 ghost use Rattle.lines.specs.Lines.{okText, acceptedOf, refusedOf};
-ghost use Rattle.lines.specs.Blocks.{startOf, cutOf, stopsOf, Called};
+ghost use Rattle.lines.specs.Blocks.{startOf, pausedOf, stopsOf, Called};
 ghost use Rattle.lines.specs.Whole.{pairs, isFull, lookOf, haltedOf, Asked, Halts, Goes};
 
 mod pairs;
@@ -112,6 +112,26 @@ fn accepted(tag: u8, size: usize, table: &[u8], out: &mut [u8], at: usize) -> us
     b + 1
 }
 
+// The line of an accepted frame at this offset; where quiet, nothing.
+fn accepted_line(
+    n: u64,
+    tag: u8,
+    size: usize,
+    table: &[u8],
+    out: &mut [u8],
+    at: usize,
+    quiet: bool,
+) -> usize
+    requires { ⌜ (10 ≤ size) × (size < 100) × (now table ≡ pairs) × (at + 29 ≤ length (now out)) ⌝ }
+    ensures { λ r. ⌜ Wrote (cond quiet [] (decimalOf n ++ acceptedOf tag size)) (now (out .entry)) at (now (out .exit)) r ⌝ }
+{
+    if quiet {
+        return at;
+    }
+    let a = offset_text(n, table, out, at);
+    accepted(tag, size, table, out, a)
+}
+
 // Behind the offset of a refused frame.
 fn refused(code: u8, place: usize, out: &mut [u8], at: usize) -> usize
     requires { ⌜ at + 51 ≤ length (now out) ⌝ }
@@ -124,8 +144,18 @@ fn refused(code: u8, place: usize, out: &mut [u8], at: usize) -> usize
     text::number(place as u64, b'\n', out, d)
 }
 
+// The line of a refused frame at this offset. Its digits do not come from the table: `offset_text` is compiled into the loop over accepted frames, which it
+// would not be if it were called here too.
+fn refused_line(n: u64, code: u8, place: usize, out: &mut [u8], at: usize) -> usize
+    requires { ⌜ at + 71 ≤ length (now out) ⌝ }
+    ensures { λ r. ⌜ Wrote (decimalOf n ++ refusedOf code place) (now (out .entry)) at (now (out .exit)) r ⌝ }
+{
+    let a = text::decimal(n, out, at);
+    refused(code, place, out, a)
+}
+
 // Why the lines of accepted frames stop: no further frame ends here; the buffer has no room for another line; the next frame is refused, with number,
-// place and size, and of its line the offset is put.
+// place and size.
 enum Halt {
     Cut,
     Full,
@@ -187,8 +217,8 @@ fn stopped_at(at: usize, to: usize, count: u64, what: Look, size: usize) -> Halt
     }
 }
 
-// A line for each accepted frame of s, from place `from` on, that ends within the first `have` bytes, up to the first frame that is not so. The loop is
-// left at a refused frame, and nothing else judges frames: so the reader is compiled into it.
+// A line, unless quiet, for each accepted frame of s, from place `from` on, that ends within the first `have` bytes, up to the first frame that is not so.
+// The loop is left at a refused frame, and nothing else judges frames: so the reader is compiled into it.
 fn told_accepted(
     s: &[u8],
     have: usize,
@@ -198,13 +228,15 @@ fn told_accepted(
     table: &[u8],
     out: &mut [u8],
     to: usize,
+    quiet: bool,
 ) -> Halted
     requires { ⌜ Asked (now s) have from offset (now table) (length (now out)) to × Table (now rows) ⌝ }
-    ensures { λ r. ⌜ Halts windowOf (now (s .entry)) have from offset (now (out .entry)) to (now (out .exit)) r ⌝ }
+    ensures { λ r. ⌜ Halts quiet windowOf (now (s .entry)) have from offset (now (out .entry)) to (now (out .exit)) r ⌝ }
 {
     let mut i = from;
     let mut o = to;
     let mut count = 0;
+    let last = out.len() - 72;
     loop {
         if have <= i {
             return Halted {
@@ -214,7 +246,7 @@ fn told_accepted(
                 why: Halt::Cut,
             };
         }
-        if out.len() - o < 72 {
+        if last < o {
             return Halted {
                 at: i,
                 to: o,
@@ -239,12 +271,11 @@ fn told_accepted(
                 why: Halt::Cut,
             };
         }
-        let a = offset_text(offset + (i - from) as u64, table, out, o);
         let what = looked(&s[i..], size, rows);
         let Look::Tag(tag) = what else {
-            return stopped_at(i, a, count, what, size);
+            return stopped_at(i, o, count, what, size);
         };
-        o = accepted(tag, size, table, out, a);
+        o = accepted_line(offset + (i - from) as u64, tag, size, table, out, o, quiet);
         i += size;
         count += 1;
     }
@@ -271,8 +302,8 @@ struct Gone {
     full: bool,
 }
 
-// A line for each frame of s, from place `from` on, that ends within the first `have` bytes: the accepted ones, then a refused one, and so on. s is these
-// bytes, or the first 52 of them where they are one frame.
+// A line for each frame of s, from place `from` on, that ends within the first `have` bytes: the accepted ones, unless quiet, then a refused one, and so on.
+// s is these bytes, or the first 52 of them where they are one frame.
 fn told_frames(
     s: &[u8],
     have: usize,
@@ -284,9 +315,10 @@ fn told_frames(
     offset: u64,
     frames: u64,
     accepted: u64,
+    quiet: bool,
 ) -> Gone
     requires { ⌜ Asked (now s) have from offset (now table) (length (now out)) to × Table (now rows) × (2 * frames ≤ offset) × (accepted ≤ frames) ⌝ }
-    ensures { λ r. ⌜ Goes windowOf (now (s .entry)) have from offset frames accepted (now (out .entry)) to (now (out .exit)) r ⌝ }
+    ensures { λ r. ⌜ Goes quiet windowOf (now (s .entry)) have from offset frames accepted (now (out .entry)) to (now (out .exit)) r ⌝ }
 {
     let mut i = from;
     let mut o = to;
@@ -294,7 +326,7 @@ fn told_frames(
     let mut fr = frames;
     let mut acc = accepted;
     loop {
-        let h = told_accepted(s, have, i, off, rows, table, out, o);
+        let h = told_accepted(s, have, i, off, rows, table, out, o, quiet);
         let j = h.at;
         let k = h.to;
         let past = off + (j - i) as u64;
@@ -311,7 +343,7 @@ fn told_frames(
                 full: is_full(why),
             };
         };
-        o = refused(number, place, out, k);
+        o = refused_line(past, number, place, out, k);
         i = j + size;
         off = past + size as u64;
         fr = told + 1;
@@ -326,6 +358,8 @@ pub enum Why {
     Stopped,
 }
 
+// How far a call came: the state behind the frames told of and, in part, behind the bytes of a further one; where it is in the block and in the buffer; and
+// why it came back.
 pub struct Blocked {
     pub state: Walk,
     pub from: usize,
@@ -335,7 +369,7 @@ pub struct Blocked {
 
 // The state past the last bytes of a block, which end no frame; at a frame's first byte, if there are none.
 fn cut(offset: u64, frames: u64, accepted: u64, rest: &[u8]) -> Walk
-    ensures { λ r. ⌜ r ≡ cutOf (startOf offset frames accepted) (now (rest .entry)) ⌝ }
+    ensures { λ r. ⌜ r ≡ pausedOf (startOf offset frames accepted) (now (rest .entry)) ⌝ }
 {
     let held = walk::put_in([0u8; 52], 0, rest);
     Walk {
@@ -372,10 +406,11 @@ fn from_start(
     offset: u64,
     frames: u64,
     accepted: u64,
+    quiet: bool,
 ) -> Blocked
-    requires { ⌜ (from ≤ length (now block)) × (at ≤ length (now out)) × (offset + (length (now block) - from) < 2 ^ 64) × (2 * frames ≤ offset) × (accepted ≤ frames)
+    requires { ⌜ (from ≤ length (now block)) × (at ≤ length (now out)) × (72 ≤ length (now out)) × (offset + (length (now block) - from) < 2 ^ 64) × (2 * frames ≤ offset) × (accepted ≤ frames)
         × (now table ≡ pairs) × Table (now rows) ⌝ }
-    ensures { λ r. ⌜ Called windowOf (startOf offset frames accepted) (now (block .entry)) from (now (out .entry)) at (now (out .exit)) r ⌝ }
+    ensures { λ r. ⌜ Called quiet windowOf (startOf offset frames accepted) (now (block .entry)) from (now (out .entry)) at (now (out .exit)) r ⌝ }
 {
     let g = told_frames(
         block,
@@ -388,6 +423,7 @@ fn from_start(
         offset,
         frames,
         accepted,
+        quiet,
     );
     let i = g.at;
     let to = g.to;
@@ -417,9 +453,10 @@ fn from_inside(
     table: &[u8],
     out: &mut [u8],
     at: usize,
+    quiet: bool,
 ) -> Blocked
     requires { ⌜ (from < length (now block)) × (at + 72 ≤ length (now out)) × (readyOf w (length (now block) - from) ≡ true) × (now table ≡ pairs) × Table (now rows) ⌝ }
-    ensures { λ r. ⌜ Called windowOf w (now (block .entry)) from (now (out .entry)) at (now (out .exit)) r ⌝ }
+    ensures { λ r. ⌜ Called quiet windowOf w (now (block .entry)) from (now (out .entry)) at (now (out .exit)) r ⌝ }
 {
     let seen = w.seen;
     let old = w.held;
@@ -455,6 +492,7 @@ fn from_inside(
         offset,
         frames,
         accepted,
+        quiet,
     );
     let used = size - seen;
     from_start(
@@ -467,12 +505,21 @@ fn from_inside(
         g.offset,
         g.frames,
         g.accepted,
+        quiet,
     )
 }
 
-// Walks the block from place `from` on, and puts a line at `at` and on for each frame that ends in it. 30 and 33 are asked once, for all of it.
-pub fn walk_block(w: Walk, block: &[u8], from: usize, out: &mut [u8], at: usize) -> Blocked
-    ensures { λ r. ⌜ Called windowOf w (now (block .entry)) from (now (out .entry)) at (now (out .exit)) r ⌝ }
+// Walks the block from place `from` on, and puts a line at `at` and on for each frame that ends in it; where quiet, for each refused one alone. 30 and 33 are
+// asked once, for all of it.
+pub fn walk_block(
+    w: Walk,
+    block: &[u8],
+    from: usize,
+    out: &mut [u8],
+    at: usize,
+    quiet: bool,
+) -> Blocked
+    ensures { λ r. ⌜ Called quiet windowOf w (now (block .entry)) from (now (out .entry)) at (now (out .exit)) r ⌝ }
 {
     if block.len() <= from {
         return Blocked {
@@ -520,9 +567,10 @@ pub fn walk_block(w: Walk, block: &[u8], from: usize, out: &mut [u8], at: usize)
             w.offset,
             w.frames,
             w.accepted,
+            quiet,
         );
     }
-    from_inside(w, block, from, &rows, &table, out, at)
+    from_inside(w, block, from, &rows, &table, out, at, quiet)
 }
 
 // Whether the walk refused the block.

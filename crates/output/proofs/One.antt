@@ -3,6 +3,7 @@
 -- Assumes nothing.
 use Prim.Native.Nat.{ℕ, _+_, _<_, _≤_}
 use mathlib.Core.Path.{_≡_, sym, _∙_}
+use mathlib.Core.Bool.{Bool}
 use mathlib.Core.List.{List}
 use mathlib.Core.Logic.{⊎-elim}
 use lib.ListN.{length}
@@ -28,6 +29,6 @@ puts-once {room} {t} {b} {a} {a′} {at} {r} {r′} p q =
     (le-or-lt (at + room) (length b))
 
 -- `walk_block` of lines
-pub walks-once : {win : List ℕ → Window} {w : Walk} {b : List ℕ} {i : ℕ} {out : List ℕ} {at : ℕ} {a a′ : List ℕ} {r r′ : Blocked}
-    → Called win w b i out at a r → Called win w b i out at a′ r′ → (a ≡ a′) × (r ≡ r′)
+pub walks-once : {quiet : Bool} {win : List ℕ → Window} {w : Walk} {b : List ℕ} {i : ℕ} {out : List ℕ} {at : ℕ} {a a′ : List ℕ} {r r′ : Blocked}
+    → Called quiet win w b i out at a r → Called quiet win w b i out at a′ r′ → (a ≡ a′) × (r ≡ r′)
 walks-once p q = (equals (p .text) (q .text), equals (p .end) (q .end))

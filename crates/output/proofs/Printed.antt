@@ -1,7 +1,9 @@
--- The texts of the calls, one behind the other, with the closing lines are the text of the walk of the whole input.
+-- The texts of the calls, one behind the other, with the closing lines are the text of the walk of the whole input; where quiet, the text that leaves out the
+-- lines of accepted frames.
 -- Assumes nothing.
 use Prim.Native.Nat.{ℕ, suc, _<_, _-_, _+_, _^_}
 use mathlib.Core.Path.{_≡_, refl, ap, sym, _∙_}
+use mathlib.Core.Bool.{Bool}
 use mathlib.Core.List.{List, [], _∷_, _++_, append-nil}
 use native.Mathlib.Omega.{arith}
 use native.Mathlib.Nat.{zero-add}
@@ -53,70 +55,72 @@ module _ (win : List ℕ → Window) (laws : Lawful win) where
             rw s (A .runs (R .steps + j) ps ∙ ap (tells (r .entries)) (rw (t, x, y) at (R .runs j)));
       }
 
-  -- what a call wrote is the lines of the frames that it tells of
-  pub call-text : (w : Walk) (b : List ℕ) (i : ℕ) (out after : List ℕ) (r : Blocked) → Called win w b i out 0 after r
-      → take (r .at) after ≡ linesOf (callOf win w b i out 0 .entries)
-  call-text w b i out after r C =
-      let e : r .at ≡ 0 + length (linesOf (callOf win w b i out 0 .entries)) = ap (λ (x : Blocked). x .at) (C .end) in
-      wrote-front (record { bytes = C .text; next = e; inside = C .inside (omega arith) })
-
-  pub record Told (w : Walk) (ps ts : List (List ℕ)) (w' : Walk) : Type 0 where
-    pub frames : List Entry
-    pub text : joined ts ≡ linesOf frames
-    pub run : Runs w ps frames w'
-
-  pub calls-run : {w w' : Walk} {ps ts : List (List ℕ)} → Calls win w ps ts w' → (q : List ℕ) → Holds w q → w .offset + length q + length (joined ps) < 2 ^ 64
-      → Told w ps ts w'
-  unfolding run joined linesOf
-  calls-run over q H t = record { frames = []; text = refl; run = record { steps = 0; runs = λ j. rw (zero-add (suc j)) } }
-  calls-run {w} (next {w' = w'} {ps = ps} {ts = ts} b i h c) q H t =
-      let d : drop i b ≡ [] = drop-of-length-le b {i = i} h in
-      let l : w .offset + length q + length (joined ps) < 2 ^ 64 = omega (arith, length-append (drop i b) (joined ps)) in
-      let T = calls-run c q H l in
-      record { frames = T .frames; text = T .text; run = runs-next w w' q (drop i b) ps (T .frames) d H (omega arith) (T .run) }
-  calls-run {w} (call {w' = w'} {ps = ps} {ts = ts} b i out after r C c) q H t =
-      let l = length-append (drop i b) (joined ps) in
-      let B = callOf win w b i out 0 in
-      let A = ahead win laws (length b - i) (length out - 0) w q b i H (omega arith) in
-      let x : r .state ≡ B .state = ap (λ (x : Blocked). x .state) (C .end) in
-      let y : r .from ≡ B .from = ap (λ (x : Blocked). x .from) (C .end) in
-      let T = calls-run c (A .seen) (rw x (A .holds)) (rw (x, y) (omega (arith, A .bytes, length-append (drop (B .from) b) (joined ps)))) in
-      record {
-        frames = B .entries ++ T .frames;
-        text =
-            ap (λ (z : List ℕ). z ++ joined ts) (call-text w b i out after r C)
-            ∙ ap (λ (z : List ℕ). linesOf (B .entries) ++ z) (T .text)
-            ∙ sym (lines-append (B .entries) (T .frames));
-        run = runs-call w (r .state) w' q b i (r .from) ps (T .frames) B A x y (T .run);
-      }
-
   fresh-holds : Holds freshOf []
   unfolding pad
   fresh-holds = record { seen = refl; held = refl; short = omega arith; two = omega arith; counted = omega arith }
 
-  -- the whole output of a program over an input, cut and flushed anywhere: the texts of its calls, and then the closing lines of its last state
-  pub printed : {w : Walk} {ps ts : List (List ℕ)} → Calls win freshOf ps ts w → length (joined ps) < 2 ^ 64
-      → joined ts ++ closingOf (w .offset) (w .seen) (w .frames) (w .accepted) ≡ textOf (walkOf win (joined ps))
-  unfolding textOf
-  printed {w} {ps} {ts} c h =
-      let T = calls-run c [] fresh-holds (omega arith) in
-      let r = walkOf win (joined ps) in
-      let e : all (T .frames) w ≡ ranOf freshOf (joined ps) r =
-      sym (T .run .runs (length ps + length (joined ps)))
-      ∙ cut win laws (joined ps) h (T .run .steps + suc (length ps + length (joined ps))) (length (joined ps)) freshOf [] ps fresh-holds refl (omega arith) (omega arith) (omega arith) in
-      ap (λ (x : List ℕ). x ++ closingOf (w .offset) (w .seen) (w .frames) (w .accepted)) (T .text)
-      ∙ ap (λ (x : Ran). linesOf (x .entries) ++ closingOf (x .state .offset) (x .state .seen) (x .state .frames) (x .state .accepted)) e
-      ∙ rw (zero-add (length (r .entries)), zero-add (accepts (r .entries)))
+  module _ (quiet : Bool) where
+    -- what a call wrote is the lines of the frames that it tells of
+    pub call-text : (w : Walk) (b : List ℕ) (i : ℕ) (out after : List ℕ) (r : Blocked) → Called quiet win w b i out 0 after r
+        → take (r .at) after ≡ linesOf quiet (callOf quiet win w b i out 0 .entries)
+    call-text w b i out after r C =
+        let e : r .at ≡ 0 + length (linesOf quiet (callOf quiet win w b i out 0 .entries)) = ap (λ (x : Blocked). x .at) (C .end) in
+        wrote-front (record { bytes = C .text; next = e; inside = C .inside (omega arith) })
+
+    pub record Told (w : Walk) (ps ts : List (List ℕ)) (w' : Walk) : Type 0 where
+      pub frames : List Entry
+      pub text : joined ts ≡ linesOf quiet frames
+      pub run : Runs w ps frames w'
+
+    pub calls-run : {w w' : Walk} {ps ts : List (List ℕ)} → Calls quiet win w ps ts w' → (q : List ℕ) → Holds w q → w .offset + length q + length (joined ps) < 2 ^ 64
+        → Told w ps ts w'
+    unfolding run joined linesOf
+    calls-run over q H t = record { frames = []; text = refl; run = record { steps = 0; runs = λ j. rw (zero-add (suc j)) } }
+    calls-run {w} (next {w' = w'} {ps = ps} {ts = ts} b i h c) q H t =
+        let d : drop i b ≡ [] = drop-of-length-le b {i = i} h in
+        let l : w .offset + length q + length (joined ps) < 2 ^ 64 = omega (arith, length-append (drop i b) (joined ps)) in
+        let T = calls-run c q H l in
+        record { frames = T .frames; text = T .text; run = runs-next w w' q (drop i b) ps (T .frames) d H (omega arith) (T .run) }
+    calls-run {w} (call {w' = w'} {ps = ps} {ts = ts} b i out after r C c) q H t =
+        let l = length-append (drop i b) (joined ps) in
+        let B = callOf quiet win w b i out 0 in
+        let A = ahead win laws quiet (length b - i) (length out - 0) w q b i H (omega arith) in
+        let x : r .state ≡ B .state = ap (λ (x : Blocked). x .state) (C .end) in
+        let y : r .from ≡ B .from = ap (λ (x : Blocked). x .from) (C .end) in
+        let T = calls-run c (A .seen) (rw x (A .holds)) (rw (x, y) (omega (arith, A .bytes, length-append (drop (B .from) b) (joined ps)))) in
+        record {
+          frames = B .entries ++ T .frames;
+          text =
+              ap (λ (z : List ℕ). z ++ joined ts) (call-text w b i out after r C)
+              ∙ ap (λ (z : List ℕ). linesOf quiet (B .entries) ++ z) (T .text)
+              ∙ sym (lines-append quiet (B .entries) (T .frames));
+          run = runs-call w (r .state) w' q b i (r .from) ps (T .frames) B A x y (T .run);
+        }
+
+    -- the whole output of a program over an input, cut and flushed anywhere: the texts of its calls, quiet or not, and then the closing lines of its last state
+    pub printed : {w : Walk} {ps ts : List (List ℕ)} → Calls quiet win freshOf ps ts w → length (joined ps) < 2 ^ 64
+        → joined ts ++ closingOf (w .offset) (w .seen) (w .frames) (w .accepted) ≡ textOf quiet (walkOf win (joined ps))
+    unfolding textOf
+    printed {w} {ps} {ts} c h =
+        let T = calls-run c [] fresh-holds (omega arith) in
+        let r = walkOf win (joined ps) in
+        let e : all (T .frames) w ≡ ranOf freshOf (joined ps) r =
+        sym (T .run .runs (length ps + length (joined ps)))
+        ∙ cut win laws (joined ps) h (T .run .steps + suc (length ps + length (joined ps))) (length (joined ps)) freshOf [] ps fresh-holds refl (omega arith) (omega arith) (omega arith) in
+        ap (λ (x : List ℕ). x ++ closingOf (w .offset) (w .seen) (w .frames) (w .accepted)) (T .text)
+        ∙ ap (λ (x : Ran). linesOf quiet (x .entries) ++ closingOf (x .state .offset) (x .state .seen) (x .state .frames) (x .state .accepted)) e
+        ∙ rw (zero-add (length (r .entries)), zero-add (accepts (r .entries)))
 
 -- the same at the reader's own window answer, with the closing lines as the program writes them
-pub frames-printed : (w : Walk) (ps ts : List (List ℕ)) (out after : List ℕ) (n : ℕ) → Calls windowOf freshOf ps ts w → length (joined ps) < 2 ^ 64
+pub frames-printed : (quiet : Bool) (w : Walk) (ps ts : List (List ℕ)) (out after : List ℕ) (n : ℕ) → Calls quiet windowOf freshOf ps ts w → length (joined ps) < 2 ^ 64
     → Wrote (closingOf (w .offset) (w .seen) (w .frames) (w .accepted)) out 0 after n
-    → joined ts ++ take n after ≡ textOf (walkOf windowOf (joined ps))
-frames-printed w ps ts out after n c h p = ap (λ (x : List ℕ). joined ts ++ x) (wrote-front p) ∙ printed windowOf lawful c h
+    → joined ts ++ take n after ≡ textOf quiet (walkOf windowOf (joined ps))
+frames-printed quiet w ps ts out after n c h p = ap (λ (x : List ℕ). joined ts ++ x) (wrote-front p) ∙ printed windowOf lawful quiet c h
 
--- of whole blocks, as the program hands them on: all that it writes is the text of the walk of all that it read
-pub output-is-text : (ps : List (List ℕ)) (w : Walk) (O : Over windowOf ps freshOf w) (out after : List ℕ) (n : ℕ) → length (joined ps) < 2 ^ 64
+-- of whole blocks, as the program hands them on: all that it writes is the text of the walk of all that it read, where quiet without the lines of accepted
+-- frames
+pub output-is-text : (quiet : Bool) (ps : List (List ℕ)) (w : Walk) (O : Over quiet windowOf ps freshOf w) (out after : List ℕ) (n : ℕ) → length (joined ps) < 2 ^ 64
     → Wrote (closingOf (w .offset) (w .seen) (w .frames) (w .accepted)) out 0 after n
-    → joined (O .texts) ++ take n after ≡ textOf (walkOf windowOf (joined ps))
-output-is-text ps w O out after n h p =
-    rw (append-nil ps, append-nil (O .texts)) at (frames-printed w (ps ++ []) (O .texts ++ []) out after n (O .rest over) (rw (append-nil ps) h) p)
+    → joined (O .texts) ++ take n after ≡ textOf quiet (walkOf windowOf (joined ps))
+output-is-text quiet ps w O out after n h p =
+    rw (append-nil ps, append-nil (O .texts)) at (frames-printed quiet w (ps ++ []) (O .texts ++ []) out after n (O .rest over) (rw (append-nil ps) h) p)

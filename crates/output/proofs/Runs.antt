@@ -2,6 +2,7 @@
 -- Assumes nothing.
 use Prim.Native.Nat.{ℕ, zero, suc, _≤_, _<_, _-_, _+_, _^_}
 use mathlib.Core.Path.{_≡_, refl, ap, sym, _∙_}
+use mathlib.Core.Bool.{Bool}
 use mathlib.Core.List.{List, [], _∷_, _++_, append-nil}
 use mathlib.Core.Logic.{_⊎_, ⊎-elim}
 use native.Mathlib.Omega.{arith}
@@ -77,56 +78,57 @@ module _ (win : List ℕ → Window) (laws : Lawful win) where
         bytes = A .bytes ∙ z;
       }
 
-  abbrev AheadAt : ℕ → Type 0
-  AheadAt k =
-      (room : ℕ) (w : Walk) (q b : List ℕ) (i : ℕ) → Holds w q → w .offset + length q + length (drop i b) < 2 ^ 64
-      → Ahead w q b i (blockOf win k room w b i)
+  module _ (quiet : Bool) where
+    abbrev AheadAt : ℕ → Type 0
+    AheadAt k =
+        (room : ℕ) (w : Walk) (q b : List ℕ) (i : ℕ) → Holds w q → w .offset + length q + length (drop i b) < 2 ^ 64
+        → Ahead w q b i (blockOf quiet win k room w b i)
 
-  module _ (k : ℕ) (IH : AheadAt k) (room : ℕ) (w : Walk) (q b : List ℕ) (i : ℕ) (H : Holds w q)
-      (t : w .offset + length q + length (drop i b) < 2 ^ 64) (h : i < length b) (g : longest ≤ room) where
-    fits : w .offset + length (q ++ drop i b) < 2 ^ 64
-    fits = omega (arith, length-append q (drop i b))
+    module _ (k : ℕ) (IH : AheadAt k) (room : ℕ) (w : Walk) (q b : List ℕ) (i : ℕ) (H : Holds w q)
+        (t : w .offset + length q + length (drop i b) < 2 ^ 64) (h : i < length b) (g : longest ≤ room) where
+      fits : w .offset + length (q ++ drop i b) < 2 ^ 64
+      fits = omega (arith, length-append q (drop i b))
 
-    ahead-more : length (q ++ drop i b) < frameSize (q ++ drop i b) → Ahead w q b i (blockOf win (suc k) room w b i)
-    unfolding run
-    ahead-more lt =
-        let p = drop i b in
-        let st = moreOf w (pad 52 (q ++ p)) (length p) in
-        let e : stepOf win w p ≡ st = step-more win laws w q H p fits lt in
-        let H' : Holds (st .state) (q ++ p) = holds-more win laws w q H p lt in
-        let d : drop (i + length p) b ≡ [] = drop-of-length-le b {i = i + length p} (omega (arith, length-drop i b)) in
-        rw (block-step win k room w b i st h g e)
-        (ahead-after w (st .state) q (q ++ p) b i (i + length p) (blockOf win k room (st .state) b (i + length p)) (λ j ps. rw e) H' fits d
-        (omega (arith, length-append q p))
-        (IH room (st .state) (q ++ p) b (i + length p) H' (omega (arith, fits, ap length d))))
+      ahead-more : length (q ++ drop i b) < frameSize (q ++ drop i b) → Ahead w q b i (blockOf quiet win (suc k) room w b i)
+      unfolding run
+      ahead-more lt =
+          let p = drop i b in
+          let st = moreOf w (pad 52 (q ++ p)) (length p) in
+          let e : stepOf win w p ≡ st = step-more win laws w q H p fits lt in
+          let H' : Holds (st .state) (q ++ p) = holds-more win laws w q H p lt in
+          let d : drop (i + length p) b ≡ [] = drop-of-length-le b {i = i + length p} (omega (arith, length-drop i b)) in
+          rw (block-step quiet win k room w b i st h g e)
+          (ahead-after w (st .state) q (q ++ p) b i (i + length p) (blockOf quiet win k room (st .state) b (i + length p)) (λ j ps. rw e) H' fits d
+          (omega (arith, length-append q p))
+          (IH room (st .state) (q ++ p) b (i + length p) H' (omega (arith, fits, ap length d))))
 
-    -- the frame's size, its bytes in the block from i on, and its answer
-    ahead-done : frameSize (q ++ drop i b) ≤ length (q ++ drop i b) → Ahead w q b i (blockOf win (suc k) room w b i)
-    unfolding run doneOf
-    ahead-done le =
-        let p = drop i b in
-        let n = frameSize (q ++ p) in
-        let u = n - length q in
-        let v = frameOf win (take n (q ++ p)) in
-        let en : Entry = record { at = w .offset; size = n; what = v } in
-        let st = doneOf w u n v in
-        let e : stepOf win w p ≡ st = step-done win laws w q H p fits le in
-        let lt : length q < n = short-append q p (H .short) in
-        let d : drop u p ≡ drop (i + u) b = drop-drop u i b in
-        let z : length (drop (i + u) b) ≡ length p - u = ap length (sym d) ∙ length-drop u p in
-        let y : w .offset + n + 0 + length (drop (i + u) b) ≡ w .offset + length q + length p = omega (arith, length-append q p) in
-        rw (block-step win k room w b i st h g e)
-        (ahead-telling w (pastOf w n v) q b i (i + u) en (blockOf win k (room - length (lineOf en)) (pastOf w n v) b (i + u)) (λ j ps. rw (e, d)) y
-        (IH (room - length (lineOf en)) (pastOf w n v) [] b (i + u) (holds-past win laws w q H n v (omega arith)) (omega arith)))
+      -- the frame's size, its bytes in the block from i on, and its answer
+      ahead-done : frameSize (q ++ drop i b) ≤ length (q ++ drop i b) → Ahead w q b i (blockOf quiet win (suc k) room w b i)
+      unfolding run doneOf
+      ahead-done le =
+          let p = drop i b in
+          let n = frameSize (q ++ p) in
+          let u = n - length q in
+          let v = frameOf win (take n (q ++ p)) in
+          let en : Entry = record { at = w .offset; size = n; what = v } in
+          let st = doneOf w u n v in
+          let e : stepOf win w p ≡ st = step-done win laws w q H p fits le in
+          let lt : length q < n = short-append q p (H .short) in
+          let d : drop u p ≡ drop (i + u) b = drop-drop u i b in
+          let z : length (drop (i + u) b) ≡ length p - u = ap length (sym d) ∙ length-drop u p in
+          let y : w .offset + n + 0 + length (drop (i + u) b) ≡ w .offset + length q + length p = omega (arith, length-append q p) in
+          rw (block-step quiet win k room w b i st h g e)
+          (ahead-telling w (pastOf w n v) q b i (i + u) en (blockOf quiet win k (room - length (lineOf quiet en)) (pastOf w n v) b (i + u)) (λ j ps. rw (e, d)) y
+          (IH (room - length (lineOf quiet en)) (pastOf w n v) [] b (i + u) (holds-past win laws w q H n v (omega arith)) (omega arith)))
 
-    ahead-step : Ahead w q b i (blockOf win (suc k) room w b i)
-    ahead-step = ⊎-elim ahead-done ahead-more (le-or-lt (frameSize (q ++ drop i b)) (length (q ++ drop i b)))
+      ahead-step : Ahead w q b i (blockOf quiet win (suc k) room w b i)
+      ahead-step = ⊎-elim ahead-done ahead-more (le-or-lt (frameSize (q ++ drop i b)) (length (q ++ drop i b)))
 
-  pub ahead : (k : ℕ) → AheadAt k
-  unfolding blockOf
-  ahead zero room w q b i H t = ahead-stopped w q b i Used H
-  ahead (suc k) room w q b i H t =
-      turn b i room
-      (λ h. rw (block-used win (suc k) room w b i h) (ahead-stopped w q b i Used H))
-      (λ h r. rw (block-full win k room w b i h r) (ahead-stopped w q b i Full H))
-      (λ h r. ahead-step k (ahead k) room w q b i H t h r)
+    pub ahead : (k : ℕ) → AheadAt k
+    unfolding blockOf
+    ahead zero room w q b i H t = ahead-stopped w q b i Used H
+    ahead (suc k) room w q b i H t =
+        turn b i room
+        (λ h. rw (block-used quiet win (suc k) room w b i h) (ahead-stopped w q b i Used H))
+        (λ h r. rw (block-full quiet win k room w b i h r) (ahead-stopped w q b i Full H))
+        (λ h r. ahead-step k (ahead k) room w q b i H t h r)

@@ -43,15 +43,15 @@ add-total c =
     let a = c .before .before .before .before .before .before .before .args in
     omega (arith, ready-all (a .w) (length (a .block .now) - a .from) (c .before .before .before .before .before .before .before .pre .2) .room)
 
-add-t33 : tie.Need-add-t33
-add-t33 c = search needs
+add-t34 : tie.Need-add-t34
+add-t34 c = search needs
 
 returns : tie.Need-returns
 returns c =
     let a = c .before .before .before .before .before .before .before .before .args in
     let pre = c .before .before .before .before .before .before .before .before .pre in
     let put = c .before .before .put-in in
-    inside-cut windowOf (a .w) (a .block .now) (a .from) (a .out .now) (a .at) (pre .0) (pre .1) (pre .2) (put .result) (c .before .size-by .result)
+    inside-cut _ windowOf (a .w) (a .block .now) (a .from) (a .out .now) (a .at) (pre .0) (pre .1) (pre .2) (put .result) (c .before .size-by .result)
     (rw (part-all (a .block .now) (a .from)) at (put .ensures)) (c .before .size-by .ensures) (c .if1 .taken)
 
 slice-aggregate-told-frames : tie.Need-slice-aggregate-told-frames
@@ -59,9 +59,19 @@ slice-aggregate-told-frames c = search needs
 
 told-frames-requires : tie.Need-told-frames-requires
 told-frames-requires c κs =
-    let f = inside-fits windowOf (c .before .before .before .before .before .before .before .before .before .before .args .w) (c .before .before .before .before .before .before .before .before .before .before .args .block .now) (c .before .before .before .before .before .before .before .before .before .before .args .from) (c .before .before .before .before .before .before .before .before .before .before .args .out .now) (c .before .before .before .before .before .before .before .before .before .before .args .at) (c .before .before .before .before .before .before .before .before .before .before .pre .0) (c .before .before .before .before .before .before .before .before .before .before .pre .1) (c .before .before .before .before .before .before .before .before .before .before .pre .2) (c .before .before .before .before .put-in .result) (c .before .before .before .size-by .result) (rw (part-all (c .before .before .before .before .before .before .before .before .before .before .args .block .now) (c .before .before .before .before .before .before .before .before .before .before .args .from)) at (c .before .before .before .before .put-in .ensures)) (c .before .before .before .size-by .ensures) (countOf (judgeOf windowOf (c .before .before .before .before .put-in .result) (c .before .before .before .size-by .result))) refl (c .before .before .if1 .left) in
-    let r = ready-all (c .before .before .before .before .before .before .before .before .before .before .args .w) (length (c .before .before .before .before .before .before .before .before .before .before .args .block .now) - c .before .before .before .before .before .before .before .before .before .before .args .from) (c .before .before .before .before .before .before .before .before .before .before .pre .2) in
-    (record { begun = omega arith; fits = omega (arith, f .room); digits = c .before .before .before .before .before .before .before .before .before .before .pre .3; inside = omega (arith, c .before .before .before .before .before .before .before .before .before .before .pre .1) }, c .before .before .before .before .before .before .before .before .before .before .pre .4, r .two, r .counted)
+    let a = c .before .before .before .before .before .before .before .before .before .before .args in
+    let pre = c .before .before .before .before .before .before .before .before .before .before .pre in
+    let put = c .before .before .before .before .put-in in
+    let sized = c .before .before .before .size-by in
+    let f = inside-fits (a .quiet) windowOf (a .w) (a .block .now) (a .from) (a .out .now) (a .at) (pre .0) (pre .1) (pre .2) (put .result) (sized .result)
+    (rw (part-all (a .block .now) (a .from)) at (put .ensures)) (sized .ensures) (countOf (judgeOf windowOf (put .result) (sized .result))) refl
+    (c .before .before .if1 .left) in
+    let r = ready-all (a .w) (length (a .block .now) - a .from) (pre .2) in (
+      record { begun = omega arith; fits = omega (arith, f .room); digits = pre .3; inside = omega (arith, pre .1); wide = omega (arith, pre .1) },
+      pre .4,
+      r .two,
+      r .counted,
+    )
 
 sub-used : tie.Need-sub-used
 sub-used c =
@@ -69,7 +79,7 @@ sub-used c =
     let pre = c .before .before .before .before .before .before .before .before .before .before .before .before .before .pre in
     let put = c .before .before .before .before .before .before .before .put-in in
     let sized = c .before .before .before .before .before .before .size-by in
-    inside-fits windowOf (a .w) (a .block .now) (a .from) (a .out .now) (a .at) (pre .0) (pre .1) (pre .2) (put .result) (sized .result)
+    inside-fits (a .quiet) windowOf (a .w) (a .block .now) (a .from) (a .out .now) (a .at) (pre .0) (pre .1) (pre .2) (put .result) (sized .result)
     (rw (part-all (a .block .now) (a .from)) at (put .ensures)) (sized .ensures) (countOf (judgeOf windowOf (put .result) (sized .result))) refl
     (c .before .before .before .before .before .if1 .left) .more
 
@@ -87,13 +97,14 @@ from-start-requires c κs =
     let put = c .before .before .before .before .before .before .before .before .put-in in
     let sized = c .before .before .before .before .before .before .before .size-by in
     let two = held-two c in
-    let f = inside-fits windowOf (a .w) (a .block .now) (a .from) (a .out .now) (a .at) (pre .0) (pre .1) (pre .2) (put .result) (sized .result)
+    let f = inside-fits (a .quiet) windowOf (a .w) (a .block .now) (a .from) (a .out .now) (a .at) (pre .0) (pre .1) (pre .2) (put .result) (sized .result)
     (rw (part-all (a .block .now) (a .from)) at (put .ensures)) (sized .ensures) (countOf (judgeOf windowOf (put .result) (sized .result))) refl
     (c .before .before .before .before .before .before .if1 .left) in
-    let o = held-one windowOf (put .result) (sized .result) (a .w .offset) (a .w .frames) (a .w .accepted) _ _ _ _
+    let o = held-one _ windowOf (put .result) (sized .result) (a .w .offset) (a .w .frames) (a .w .accepted) _ _ _ _
     (c .before .before .before .told-frames .ensures) two (sized .ensures) (pre .1) in (
       f .within,
       omega (arith, o .line .inside, wrote-long (o .line)),
+      omega (arith, pre .1, wrote-long (o .line)),
       omega (arith, f .room, o .past),
       omega (arith, f .two, o .told, o .past),
       omega (arith, f .counted, o .good, o .told),
@@ -111,9 +122,9 @@ returns-2 c =
     let put = c .before .before .before .before .before .before .before .before .before .before .before .put-in in
     let sized = c .before .before .before .before .before .before .before .before .before .before .size-by in
     let two = held-two (c .before .before .before) in
-    let o = held-one windowOf (put .result) (sized .result) (a .w .offset) (a .w .frames) (a .w .accepted) _ _ _ _
+    let o = held-one _ windowOf (put .result) (sized .result) (a .w .offset) (a .w .frames) (a .w .accepted) _ _ _ _
     (c .before .before .before .before .before .before .told-frames .ensures) two (sized .ensures) (pre .1) in
-    inside-line windowOf (a .w) (a .block .now) (a .from) (a .out .now) (a .at) (pre .0) (pre .1) (pre .2) (put .result) (sized .result)
+    inside-line _ windowOf (a .w) (a .block .now) (a .from) (a .out .now) (a .at) (pre .0) (pre .1) (pre .2) (put .result) (sized .result)
     (rw (part-all (a .block .now) (a .from)) at (put .ensures)) (sized .ensures)
     (c .before .before .before .before .before .before .before .before .before .if1 .left) _ _ _ (o .line) refl _ _
     (rw (o .past, o .told, o .good) at (c .before .before .from-start .ensures))
@@ -131,7 +142,7 @@ from-inside-spec =
     size-by-requires
     sub-left
     add-total
-    add-t33
+    add-t34
     returns
     slice-aggregate-told-frames
     told-frames-requires

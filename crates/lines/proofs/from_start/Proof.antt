@@ -11,7 +11,9 @@ use Rattle.lines.proofs.from_start.Statement.{statement}
 use Rattle.lines.proofs.from_start.Tie as tie
 
 told-frames-requires : tie.Need-told-frames-requires
-told-frames-requires c κs = (record { begun = c .before .before .before .before .pre .0; fits = c .before .before .before .before .pre .2; digits = c .before .before .before .before .pre .5; inside = c .before .before .before .before .pre .1 }, c .before .before .before .before .pre .6, c .before .before .before .before .pre .3, c .before .before .before .before .pre .4)
+told-frames-requires c κs =
+    let pre = c .before .before .before .before .pre in
+    (record { begun = pre .0; fits = pre .3; digits = pre .6; inside = pre .1; wide = pre .2 }, pre .7, pre .4, pre .5)
 
 start-requires : tie.Need-start-requires
 start-requires c κs = search needs
@@ -23,18 +25,18 @@ returns : tie.Need-returns
 returns c =
     let pre = c .before .before .before .before .before .before .before .before .before .pre in
     let G = c .before .before .before .before .told-frames .ensures in
-    let A = gone-along windowOf _ _ _ _ _ _ _ (pre .0) (pre .1) (pre .2) (pre .3) (pre .4) _ _ G in
+    let A = gone-along _ windowOf _ _ _ _ _ _ _ (pre .0) (pre .1) (pre .3) (pre .4) (pre .5) _ _ G in
     let f = G .full (c .before .if1 .taken) in
-    rw (c .start .ensures) (along-full windowOf _ _ _ _ _ _ _ _ _ _ _ A (f .0) (omega (arith, f .1, wrote-long (G .text), G .text .inside)))
+    rw (c .start .ensures) (along-full _ windowOf _ _ _ _ _ _ _ _ _ _ _ A (f .0) (omega (arith, f .1, wrote-long (G .text), G .text .inside)))
 
 sub-left : tie.Need-sub-left
-sub-left c = frames-far windowOf _ _ (c .before .before .before .before .before .before .before .before .pre .0) (c .before .before .before .told-frames .ensures .run) .1
+sub-left c = frames-far _ windowOf _ _ (c .before .before .before .before .before .before .before .before .pre .0) (c .before .before .before .told-frames .ensures .run) .1
 
 sub-cut : tie.Need-sub-cut
 sub-cut c =
     omega (
       arith,
-      frames-far windowOf _ _ (c .before .before .before .before .before .before .before .before .pre .0)
+      frames-far _ windowOf _ _ (c .before .before .before .before .before .before .before .before .pre .0)
           (c .before .before .before .told-frames .ensures .run) .1,
     )
 
@@ -42,7 +44,7 @@ part-cut-start : tie.Need-part-cut-start
 part-cut-start c =
     omega (
       arith,
-      frames-far windowOf _ _ (c .before .before .before .before .before .before .before .before .pre .0)
+      frames-far _ windowOf _ _ (c .before .before .before .before .before .before .before .before .pre .0)
           (c .before .before .before .told-frames .ensures .run) .1,
     )
 
@@ -52,8 +54,8 @@ part-cut-end c = search needs
 cut-requires : tie.Need-cut-requires
 cut-requires c κs = search needs
 
-add-t24 : tie.Need-add-t24
-add-t24 c = search needs
+add-t25 : tie.Need-add-t25
+add-t25 c = search needs
 
 same-length-2 : tie.Need-same-length-2
 same-length-2 c = search needs
@@ -63,11 +65,11 @@ returns-2 c =
     let pre = c .before .before .before .before .before .before .before .before .before .before .pre in
     let told = c .before .before .before .before .before .told-frames in
     let G = told .ensures in
-    let A = gone-along windowOf _ _ _ _ _ _ _ (pre .0) (pre .1) (pre .2) (pre .3) (pre .4) _ _ G in
+    let A = gone-along _ windowOf _ _ _ _ _ _ _ (pre .0) (pre .1) (pre .3) (pre .4) (pre .5) _ _ G in
     let f = G .cut (c .before .before .if1 .left) in
     rw
     (c .cut .ensures, part-all (c .before .before .before .before .before .before .before .before .before .before .args .block .now) (told .result .at))
-    (along-end windowOf _ _ _ _ _ _ _ _ _ _ _ A (frames-far windowOf _ _ (pre .0) (G .run) .1) (f .0) (λ l. omega (arith, f .1 l, wrote-long (G .text))))
+    (along-end _ windowOf _ _ _ _ _ _ _ _ _ _ _ A (frames-far _ windowOf _ _ (pre .0) (G .run) .1) (f .0) (λ l. omega (arith, f .1 l, wrote-long (G .text))))
 
 pub from-start-spec : {M : Type 1} → statement M
 from-start-spec =
@@ -82,6 +84,6 @@ from-start-spec =
     part-cut-start
     part-cut-end
     cut-requires
-    add-t24
+    add-t25
     same-length-2
     returns-2)

@@ -3,7 +3,7 @@
 use Prim.Native.Nat.{_+_, _-_}
 use mathlib.Core.Path.{refl, sym, _∙_}
 use mathlib.Core.Logic.{inl, inr}
-use Rattle.text.proofs.Laws.{decimal-20, wrote-long}
+use Rattle.text.proofs.Laws.{wrote-long}
 use Rattle.lines.proofs.Turns.{part-all}
 use Rattle.lines.proofs.Along.{size-here}
 use Rattle.lines.proofs.Plainly.{tag-told}
@@ -16,28 +16,28 @@ use Rattle.lines.proofs.told_accepted.Statement.{statement}
 use Rattle.lines.proofs.told_accepted.Tie as tie
 
 abbrev Inv-loop : tie.InvT-loop
-Inv-loop s have from offset rows table out₀ to i₀ o₀ count₀ out i o count = Telling windowOf s have from offset out₀ to out i o count
+Inv-loop s have from offset rows table out₀ to quiet i₀ o₀ count₀ last out i o count = Telling quiet windowOf s have from offset out₀ to out i o count
 
 abbrev μ-loop : tie.MeasureT-loop
-μ-loop s have from offset rows table out₀ to i₀ o₀ count₀ out i o count = have - i
+μ-loop s have from offset rows table out₀ to quiet i₀ o₀ count₀ last out i o count = have - i
+
+sub-last : tie.Need-sub-last Inv-loop μ-loop
+sub-last c = c .before .before .before .pre .0 .wide
 
 loop-holds : tie.Need-loop-holds Inv-loop μ-loop
-loop-holds c = telling-start windowOf _ _ _ _ _ _ (c .before .before .before .pre .0 .begun) (c .before .before .before .pre .0 .inside)
+loop-holds c = telling-start _ windowOf _ _ _ _ _ _ (c .before .before .before .pre .0 .begun) (c .before .before .before .pre .0 .inside) (c .before .before .before .pre .0 .wide)
 
 same-length : tie.Need-same-length Inv-loop μ-loop
 same-length c = wrote-long (c .before .loop .inv .text)
 
 returns : tie.Need-returns Inv-loop μ-loop
-returns c = telling-cut windowOf _ _ _ _ _ _ _ _ _ _ (c .before .loop .inv) (inl (c .if1 .taken)) (λ l. absurd (omega (arith, l, c .if1 .taken)))
-
-sub-if2 : tie.Need-sub-if2 Inv-loop μ-loop
-sub-if2 c = omega (arith, c .before .loop .inv .text .inside, wrote-long (c .before .loop .inv .text))
+returns c = telling-cut _ windowOf _ _ _ _ _ _ _ _ _ _ (c .before .loop .inv) (inl (c .if1 .taken)) (λ l. absurd (omega (arith, l, c .if1 .taken)))
 
 same-length-2 : tie.Need-same-length-2 Inv-loop μ-loop
 same-length-2 c = wrote-long (c .before .before .loop .inv .text)
 
 returns-2 : tie.Need-returns-2 Inv-loop μ-loop
-returns-2 c = telling-full windowOf _ _ _ _ _ _ _ _ _ _ (c .before .before .loop .inv) (c .before .if1 .left) (c .if2 .taken)
+returns-2 c = telling-full _ windowOf _ _ _ _ _ _ _ _ _ _ (c .before .before .loop .inv) (c .before .if1 .left) (c .if2 .taken)
 
 add-if3 : tie.Need-add-if3 Inv-loop μ-loop
 add-if3 c = omega (arith, c .before .if1 .left)
@@ -46,7 +46,7 @@ same-length-3 : tie.Need-same-length-3 Inv-loop μ-loop
 same-length-3 c = wrote-long (c .before .before .before .loop .inv .text)
 
 returns-3 : tie.Need-returns-3 Inv-loop μ-loop
-returns-3 c = telling-cut windowOf _ _ _ _ _ _ _ _ _ _ (c .before .before .before .loop .inv) (inr (inl (c .if3 .taken))) (λ _. c .before .if2 .left)
+returns-3 c = telling-cut _ windowOf _ _ _ _ _ _ _ _ _ _ (c .before .before .before .loop .inv) (inr (inl (c .if3 .taken))) (λ _. c .before .if2 .left)
 
 shared-slice-read-size-by : tie.Need-shared-slice-read-size-by Inv-loop μ-loop
 shared-slice-read-size-by c = omega (arith, c .before .if3 .left)
@@ -69,42 +69,21 @@ same-length-4 c = wrote-long (c .before .before .before .before .before .before 
 returns-4 : tie.Need-returns-4 Inv-loop μ-loop
 returns-4 c =
     let l = c .before .before .before .before .before .before .before .loop in
-    telling-cut windowOf _ _ _ _ _ _ _ _ _ _ (l .inv)
+    telling-cut _ windowOf _ _ _ _ _ _ _ _ _ _ (l .inv)
     (inr (inr (rw (← size-here (c .before .before .before .before .before .before .before .before .before .before .before .args .s .now) (l .i) (c .before .size-by .result) (omega (arith, c .before .before .before .before .if3 .left)) (c .before .size-by .ensures)) (c .if4 .taken))))
     (λ _. c .before .before .before .before .before .if2 .left)
 
-sub-offset-text : tie.Need-sub-offset-text Inv-loop μ-loop
-sub-offset-text c = omega (arith, c .before .before .before .before .before .before .before .loop .inv .ahead)
-
-add-offset-text : tie.Need-add-offset-text Inv-loop μ-loop
-add-offset-text c =
-    omega (
-      arith,
-      c .before .before .before .before .before .before .before .before .before .before .before .pre .0 .fits,
-      c .before .before .before .before .before .before .if1 .left,
-      c .before .before .before .before .before .before .before .loop .inv .ahead,
-    )
-
-offset-text-requires : tie.Need-offset-text-requires Inv-loop μ-loop
-offset-text-requires c κs = (
-  c .before .before .before .before .before .before .before .before .before .before .before .before .pre .0 .digits,
-  omega (arith, c .before .before .before .before .before .before .if2 .left),
-)
-
 sub-looked : tie.Need-sub-looked Inv-loop μ-loop
-sub-looked c = omega (arith, c .before .before .before .before .before .before .before .before .if3 .left)
+sub-looked c = omega (arith, c .before .before .before .before .if3 .left)
 
 part-looked-start : tie.Need-part-looked-start Inv-loop μ-loop
-part-looked-start c = omega (arith, c .before .before .before .before .before .before .before .before .if3 .left)
+part-looked-start c = omega (arith, c .before .before .before .before .if3 .left)
 
 part-looked-end : tie.Need-part-looked-end Inv-loop μ-loop
-part-looked-end c = omega (arith, c .before .before .before .before .before .before .before .before .if3 .left)
+part-looked-end c = omega (arith, c .before .before .before .before .if3 .left)
 
 looked-requires : tie.Need-looked-requires Inv-loop μ-loop
-looked-requires c κs = (
-  omega (arith, c .before .before .before .before .before .before .size-by .ensures),
-  c .before .before .before .before .before .before .before .before .before .before .before .before .before .before .before .before .pre .1,
-)
+looked-requires c κs = (omega (arith, c .before .before .size-by .ensures), c .before .before .before .before .before .before .before .before .before .before .before .before .pre .1)
 
 enum-known-what : tie.Need-enum-known-what Inv-loop μ-loop
 enum-known-what c = search needs
@@ -116,69 +95,59 @@ stopped-at-requires : tie.Need-stopped-at-requires Inv-loop μ-loop
 stopped-at-requires c κs = search needs
 
 same-length-5 : tie.Need-same-length-5 Inv-loop μ-loop
-same-length-5 c =
-    wrote-long (c .before .before .before .before .before .before .before .offset-text .ensures)
-    ∙ wrote-long (c .before .before .before .before .before .before .before .before .before .before .before .before .before .before .before .before .loop .inv .text)
+same-length-5 c = wrote-long (c .before .before .before .before .before .before .before .before .before .before .before .before .loop .inv .text)
 
 returns-5 : tie.Need-returns-5 Inv-loop μ-loop
 returns-5 c =
-    let z = (size-here (c .before .before .before .before .before .before .before .before .before .before .before .before .before .before .before .before .before .before .before .before .args .s .now) (c .before .before .before .before .before .before .before .before .before .before .before .before .before .before .before .before .loop .i) (c .before .before .before .before .before .before .before .before .before .before .size-by .result) (omega (arith, c .before .before .before .before .before .before .before .before .before .before .before .before .before .if3 .left)) (c .before .before .before .before .before .before .before .before .before .before .size-by .ensures)) in
-    let e = rw (part-all (c .before .before .before .before .before .before .before .before .before .before .before .before .before .before .before .before .before .before .before .before .args .s .now) (c .before .before .before .before .before .before .before .before .before .before .before .before .before .before .before .before .loop .i)) at (c .before .before .before .looked .ensures) in
-    rw (c .stopped-at .ensures, e) (telling-refused windowOf _ _ _ _ _ _ _ _ _ _ (c .before .before .before .before .before .before .before .before .before .before .before .before .before .before .before .before .loop .inv) (c .before .before .before .before .before .before .before .before .before .before .size-by .result) (record { before = c .before .before .before .before .before .before .before .before .before .before .before .before .before .before .before .if1 .left; sized = omega (arith, c .before .before .before .before .before .before .before .before .before .before .before .before .before .if3 .left); whole = omega (arith, z, c .before .before .before .before .before .before .before .before .before .if4 .left) }) z (c .before .before .before .before .before .before .before .before .before .before .before .before .before .before .if2 .left) _ _ (c .before .before .before .before .before .before .before .offset-text .ensures) (judgeOf windowOf _ _) refl _ _ (sym e ∙ c .before .enum-told .given .1))
+    let a = c .before .before .before .before .before .before .before .before .before .before .before .before .before .before .before .before .args in
+    let l = c .before .before .before .before .before .before .before .before .before .before .before .before .loop in
+    let sized = c .before .before .before .before .before .before .size-by in
+    let z = size-here (a .s .now) (l .i) (sized .result) (omega (arith, c .before .before .before .before .before .before .before .before .before .if3 .left)) (sized .ensures) in
+    let e = rw (part-all (a .s .now) (l .i)) at (c .before .before .before .looked .ensures) in
+    rw (c .stopped-at .ensures, e)
+    (telling-refused _ windowOf _ _ _ _ _ _ _ _ _ _ (l .inv) (sized .result)
+    (record { before = c .before .before .before .before .before .before .before .before .before .before .before .if1 .left; sized = omega (arith, c .before .before .before .before .before .before .before .before .before .if3 .left); whole = omega (arith, z, c .before .before .before .before .before .if4 .left) }) z (c .before .before .before .before .before .before .before .before .before .before .if2 .left)
+    (judgeOf windowOf _ _) refl _ _ (sym e ∙ c .before .enum-told .given .1))
 
-accepted-requires : tie.Need-accepted-requires Inv-loop μ-loop
-accepted-requires c κs =
-    let a = c .before .before .before .before .before .before .before .before .before .before .before .before .before .before .before .before .before .before .before .before .before .args in
-    let pre = c .before .before .before .before .before .before .before .before .before .before .before .before .before .before .before .before .before .before .before .before .before .pre in
-    let l = c .before .before .before .before .before .before .before .before .before .before .before .before .before .before .before .before .before .loop in
-    let sized = c .before .before .before .before .before .before .before .before .before .before .before .size-by in
-    let text = c .before .before .before .before .before .before .before .before .offset-text in
-    let z =
-    (size-here (a .s .now) (l .i) (sized .result) (omega (arith, c .before .before .before .before .before .before .before .before .before .before .before .before .before .before .if3 .left)) (sized .ensures)) in
+sub-accepted-line : tie.Need-sub-accepted-line Inv-loop μ-loop
+sub-accepted-line c = omega (arith, c .before .before .before .before .before .before .before .before .before .before .before .before .loop .inv .ahead)
+
+add-accepted-line : tie.Need-add-accepted-line Inv-loop μ-loop
+add-accepted-line c = omega (arith, c .before .before .before .before .before .before .before .before .before .before .before .before .before .before .before .before .pre .0 .fits, c .before .before .before .before .before .before .before .before .before .before .before .if1 .left, c .before .before .before .before .before .before .before .before .before .before .before .before .loop .inv .ahead)
+
+accepted-line-requires : tie.Need-accepted-line-requires Inv-loop μ-loop
+accepted-line-requires c κs =
+    let a = c .before .before .before .before .before .before .before .before .before .before .before .before .before .before .before .before .before .args in
+    let l = c .before .before .before .before .before .before .before .before .before .before .before .before .before .loop in
+    let sized = c .before .before .before .before .before .before .before .size-by in
+    let z = size-here (a .s .now) (l .i) (sized .result) (omega (arith, c .before .before .before .before .before .before .before .before .before .before .if3 .left)) (sized .ensures) in
     let e = rw (part-all (a .s .now) (l .i)) at (c .before .before .before .before .looked .ensures) in
     let t = tag-told (judgeOf windowOf _ _) _ (sym e ∙ c .before .before .what .given .1) in
-    let d = accepted-size _ _ (t .0) (t .1) in (
-      omega (arith, d .0),
-      omega (arith, d .1),
-      pre .0 .digits,
-      omega (
-        arith,
-        c .before .before .before .before .before .before .before .before .before .before .before .before .before .before .before .if2 .left,
-        text .ensures .next,
-        wrote-long (text .ensures),
-        decimal-20 (a .offset + (l .i - a .from))
-            (omega (arith, pre .0 .fits, c .before .before .before .before .before .before .before .before .before .before .before .before .before .before .before .before .if1 .left, l .inv .ahead)),
-      ),
-    )
+    let d = accepted-size _ _ (t .0) (t .1) in
+    (omega (arith, d .0), omega (arith, d .1), c .before .before .before .before .before .before .before .before .before .before .before .before .before .before .before .before .before .pre .0 .digits, omega (arith, c .before .before .before .before .before .before .before .before .before .before .before .if2 .left, l .inv .wide, wrote-long (l .inv .text)))
 
 add-i : tie.Need-add-i Inv-loop μ-loop
-add-i c =
-    omega (
-      arith,
-      c .before .before .before .before .before .before .before .before .before .before .before .before .before .if4 .left,
-      c .before .before .before .before .before .before .before .before .before .before .before .before .before .before .before .before .before .before .before .if1 .left,
-    )
+add-i c = omega (arith, c .before .before .before .before .before .before .before .before .before .if4 .left, c .before .before .before .before .before .before .before .before .before .before .before .before .before .before .before .if1 .left)
 
 add-count : tie.Need-add-count Inv-loop μ-loop
 add-count c =
-    let l = c .before .before .before .before .before .before .before .before .before .before .before .before .before .before .before .before .before .before .before .before .loop in
+    let l = c .before .before .before .before .before .before .before .before .before .before .before .before .before .before .before .before .loop in
     omega (arith, l .inv .ahead, l .inv .within)
 
 loop-less : tie.Need-loop-less Inv-loop μ-loop
-loop-less c =
-    omega (
-      arith,
-      c .before .before .before .before .before .before .before .before .before .before .before .before .before .if4 .left,
-      c .before .before .before .before .before .before .before .before .before .before .before .before .before .before .before .before .before .before .before .if1 .left,
-      c .before .before .before .before .before .before .before .before .before .before .before .before .before .before .size-by .ensures,
-    )
+loop-less c = omega (arith, c .before .before .before .before .before .before .before .before .before .if4 .left, c .before .before .before .before .before .before .before .before .before .before .before .before .before .before .before .if1 .left, c .before .before .before .before .before .before .before .before .before .before .size-by .ensures)
 
 loop-again : tie.Need-loop-again Inv-loop μ-loop
 loop-again c =
-    let z = (size-here (c .before .before .before .before .before .before .before .before .before .before .before .before .before .before .before .before .before .before .before .before .before .before .before .before .args .s .now) (c .before .before .before .before .before .before .before .before .before .before .before .before .before .before .before .before .before .before .before .before .loop .i) (c .before .before .before .before .before .before .before .before .before .before .before .before .before .before .size-by .result) (omega (arith, c .before .before .before .before .before .before .before .before .before .before .before .before .before .before .before .before .before .if3 .left)) (c .before .before .before .before .before .before .before .before .before .before .before .before .before .before .size-by .ensures)) in
-    let e = rw (part-all (c .before .before .before .before .before .before .before .before .before .before .before .before .before .before .before .before .before .before .before .before .before .before .before .before .args .s .now) (c .before .before .before .before .before .before .before .before .before .before .before .before .before .before .before .before .before .before .before .before .loop .i)) at (c .before .before .before .before .before .before .before .looked .ensures) in
+    let a = c .before .before .before .before .before .before .before .before .before .before .before .before .before .before .before .before .before .before .before .before .args in
+    let l = c .before .before .before .before .before .before .before .before .before .before .before .before .before .before .before .before .loop in
+    let sized = c .before .before .before .before .before .before .before .before .before .before .size-by in
+    let z = size-here (a .s .now) (l .i) (sized .result) (omega (arith, c .before .before .before .before .before .before .before .before .before .before .before .before .before .if3 .left)) (sized .ensures) in
+    let e = rw (part-all (a .s .now) (l .i)) at (c .before .before .before .before .before .before .before .looked .ensures) in
     let t = tag-told (judgeOf windowOf _ _) _ (sym e ∙ c .before .before .before .before .before .what .given .1) in
-    telling-more windowOf _ _ _ _ _ _ _ _ _ _ (c .before .before .before .before .before .before .before .before .before .before .before .before .before .before .before .before .before .before .before .before .loop .inv) (c .before .before .before .before .before .before .before .before .before .before .before .before .before .before .size-by .result) (record { before = c .before .before .before .before .before .before .before .before .before .before .before .before .before .before .before .before .before .before .before .if1 .left; sized = omega (arith, c .before .before .before .before .before .before .before .before .before .before .before .before .before .before .before .before .before .if3 .left); whole = omega (arith, z, c .before .before .before .before .before .before .before .before .before .before .before .before .before .if4 .left) }) z (c .before .before .before .before .before .before .before .before .before .before .before .before .before .before .before .before .before .before .if2 .left) _ _ (c .before .before .before .before .before .before .before .before .before .before .before .offset-text .ensures) (t .0) (t .1) _ _ (rw (t .2) (c .before .before .accepted .ensures))
+    telling-more _ windowOf _ _ _ _ _ _ _ _ _ _ (l .inv) (sized .result)
+    (record { before = c .before .before .before .before .before .before .before .before .before .before .before .before .before .before .before .if1 .left; sized = omega (arith, c .before .before .before .before .before .before .before .before .before .before .before .before .before .if3 .left); whole = omega (arith, z, c .before .before .before .before .before .before .before .before .before .if4 .left) }) z (c .before .before .before .before .before .before .before .before .before .before .before .before .before .before .if2 .left)
+    (t .0) (t .1) _ _ (rw (t .2) (c .before .before .accepted-line .ensures))
 
 pub told-accepted-spec : {M : Type 1} → statement M
 told-accepted-spec =
@@ -186,10 +155,10 @@ told-accepted-spec =
     (tie.spec
     Inv-loop
     μ-loop
+    sub-last
     loop-holds
     same-length
     returns
-    sub-if2
     same-length-2
     returns-2
     add-if3
@@ -202,9 +171,6 @@ told-accepted-spec =
     sub-if4
     same-length-4
     returns-4
-    sub-offset-text
-    add-offset-text
-    offset-text-requires
     sub-looked
     part-looked-start
     part-looked-end
@@ -214,7 +180,9 @@ told-accepted-spec =
     stopped-at-requires
     same-length-5
     returns-5
-    accepted-requires
+    sub-accepted-line
+    add-accepted-line
+    accepted-line-requires
     add-i
     add-count
     loop-less

@@ -1,42 +1,30 @@
 -- `lines::told_frames` meets its contract.
 -- Assumes nothing.
-use Prim.Native.Nat.{_+_, _-_, _*_, _^_, _≤_, _<_}
+use Prim.Native.Nat.{_+_, _-_, _*_, _≤_}
 use mathlib.Core.Path.{_∙_}
 use native.Mathlib.Omega.{arith}
 use Rattle.reader.specs.Window.{windowOf}
 use Rattle.text.proofs.Laws.{wrote-long}
-use Rattle.lines.proofs.Told.{Passing, passing-start, far, passing-ends, passing-on, halts-long, halts-bad, not-bad}
+use Rattle.lines.proofs.Told.{Passing, passing-start, far, passing-ends, passing-on, halts-bad, not-bad}
 use borrow.Author.Needs.{needs}
 use Rattle.lines.proofs.told_frames.Statement.{statement}
 use Rattle.lines.proofs.told_frames.Tie as tie
 
 abbrev Inv-loop : tie.InvT-loop
-Inv-loop s have from rows table out₀ to offset frames accepted i₀ o₀ off₀ fr₀ acc₀ out i o off fr acc =
-    Passing windowOf s have from offset frames accepted out₀ to out i o off fr acc
+Inv-loop s have from rows table out₀ to offset frames accepted quiet i₀ o₀ off₀ fr₀ acc₀ out i o off fr acc =
+    Passing quiet windowOf s have from offset frames accepted out₀ to out i o off fr acc
 
 abbrev μ-loop : tie.MeasureT-loop
-μ-loop s have from rows table out₀ to offset frames accepted i₀ o₀ off₀ fr₀ acc₀ out i o off fr acc = have - i
+μ-loop s have from rows table out₀ to offset frames accepted quiet i₀ o₀ off₀ fr₀ acc₀ out i o off fr acc = have - i
 
 -- the accepted frames lie behind one another, two bytes or more each, within the bytes
 moved : (c : tie.After-told-accepted Inv-loop μ-loop)
     → (c .before .before .loop .i + 2 * c .told-accepted .result .count ≤ c .told-accepted .result .at)
     × (c .told-accepted .result .at ≤ c .before .before .before .before .before .before .args .have)
-moved c = far windowOf _ _ _ _ _ _ _ _ _ _ _ _ _ _ (c .before .before .loop .inv) _ _ (c .told-accepted .ensures)
-
--- and so the offset behind them fits 64 bits
-past-fits : (c : tie.After-told-accepted Inv-loop μ-loop)
-    → c .before .before .loop .off + (c .told-accepted .result .at - c .before .before .loop .i) < 2 ^ 64
-past-fits c =
-    omega (
-      arith,
-      moved c,
-      c .before .before .loop .inv .past,
-      c .before .before .loop .inv .ahead,
-      c .before .before .before .before .before .before .pre .0 .fits,
-    )
+moved c = far _ windowOf _ _ _ _ _ _ _ _ _ _ _ _ _ _ (c .before .before .loop .inv) _ _ (c .told-accepted .ensures)
 
 loop-holds : tie.Need-loop-holds Inv-loop μ-loop
-loop-holds c = passing-start windowOf _ _ _ _ _ _ _ _ (c .before .before .before .pre .0 .begun) (c .before .before .before .pre .0 .inside) (c .before .before .before .pre .2) (c .before .before .before .pre .3)
+loop-holds c = passing-start _ windowOf _ _ _ _ _ _ _ _ (c .before .before .before .pre .0 .begun) (c .before .before .before .pre .0 .inside) (c .before .before .before .pre .2) (c .before .before .before .pre .3)
 
 told-accepted-requires : tie.Need-told-accepted-requires Inv-loop μ-loop
 told-accepted-requires c κs = (
@@ -45,6 +33,7 @@ told-accepted-requires c κs = (
     fits = omega (arith, c .before .loop .inv .past, c .before .loop .inv .ahead, c .before .loop .inv .within, c .before .before .before .before .before .pre .0 .fits);
     digits = c .before .before .before .before .before .pre .0 .digits;
     inside = omega (arith, c .before .loop .inv .text .inside, wrote-long (c .before .loop .inv .text));
+    wide = omega (arith, c .before .before .before .before .before .pre .0 .wide, wrote-long (c .before .loop .inv .text));
   },
   c .before .before .before .before .before .pre .1,
 )
@@ -68,36 +57,36 @@ is-full-requires : tie.Need-is-full-requires Inv-loop μ-loop
 is-full-requires c κs = search needs
 
 same-length : tie.Need-same-length Inv-loop μ-loop
-same-length c = halts-long (c .before .before .before .before .before .before .told-accepted .ensures) ∙ wrote-long (c .before .before .before .before .before .before .before .before .loop .inv .text)
+same-length c = wrote-long (c .before .before .before .before .before .before .told-accepted .ensures .text) ∙ wrote-long (c .before .before .before .before .before .before .before .before .loop .inv .text)
 
 returns : tie.Need-returns Inv-loop μ-loop
-returns c = passing-ends windowOf _ _ _ _ _ _ _ _ _ _ _ _ _ _ (c .before .before .before .before .before .before .before .before .loop .inv) _ _ (c .before .before .before .before .before .before .told-accepted .ensures) _ (c .is-full .ensures) (not-bad (c .before .match .keys2))
+returns c = passing-ends _ windowOf _ _ _ _ _ _ _ _ _ _ _ _ _ _ (c .before .before .before .before .before .before .before .before .loop .inv) _ _ (c .before .before .before .before .before .before .told-accepted .ensures) _ (c .is-full .ensures) (not-bad (c .before .match .keys2))
 
-refused-requires : tie.Need-refused-requires Inv-loop μ-loop
-refused-requires c κs = halts-bad (c .before .before .before .before .before .before .before .before .told-accepted .ensures) _ _ _ (c .before .before .why .given .1) (past-fits (c .before .before .before .before .before .before .before .before)) .0
+refused-line-requires : tie.Need-refused-line-requires Inv-loop μ-loop
+refused-line-requires c κs = omega (arith, halts-bad (c .before .before .before .before .before .before .before .before .told-accepted .ensures) _ _ _ (c .before .before .why .given .1) .0)
 
 add-i : tie.Need-add-i Inv-loop μ-loop
 add-i c =
-    let b = halts-bad (c .before .before .before .before .before .before .before .before .before .before .before .told-accepted .ensures) _ _ _ (c .before .before .before .before .before .why .given .1) (past-fits (c .before .before .before .before .before .before .before .before .before .before .before)) in
+    let b = halts-bad (c .before .before .before .before .before .before .before .before .before .before .before .told-accepted .ensures) _ _ _ (c .before .before .before .before .before .why .given .1) in
     omega (arith, b .1, b .2)
 
 add-off : tie.Need-add-off Inv-loop μ-loop
 add-off c =
-    let b = halts-bad (c .before .before .before .before .before .before .before .before .before .before .before .told-accepted .ensures) _ _ _ (c .before .before .before .before .before .why .given .1) (past-fits (c .before .before .before .before .before .before .before .before .before .before .before)) in
+    let b = halts-bad (c .before .before .before .before .before .before .before .before .before .before .before .told-accepted .ensures) _ _ _ (c .before .before .before .before .before .why .given .1) in
     omega (arith, b .1, b .2, moved (c .before .before .before .before .before .before .before .before .before .before .before), c .before .before .before .before .before .before .before .before .before .before .before .before .before .loop .inv .past, c .before .before .before .before .before .before .before .before .before .before .before .before .before .loop .inv .ahead, c .before .before .before .before .before .before .before .before .before .before .before .before .before .before .before .before .before .pre .0 .fits)
 
 add-fr : tie.Need-add-fr Inv-loop μ-loop
 add-fr c =
-    let b = halts-bad (c .before .before .before .before .before .before .before .before .before .before .before .told-accepted .ensures) _ _ _ (c .before .before .before .before .before .why .given .1) (past-fits (c .before .before .before .before .before .before .before .before .before .before .before)) in
+    let b = halts-bad (c .before .before .before .before .before .before .before .before .before .before .before .told-accepted .ensures) _ _ _ (c .before .before .before .before .before .why .given .1) in
     omega (arith, b .1, b .2, b .3, moved (c .before .before .before .before .before .before .before .before .before .before .before), c .before .before .before .before .before .before .before .before .before .before .before .before .before .loop .inv .past, c .before .before .before .before .before .before .before .before .before .before .before .before .before .loop .inv .ahead, c .before .before .before .before .before .before .before .before .before .before .before .before .before .loop .inv .two, c .before .before .before .before .before .before .before .before .before .before .before .before .before .before .before .before .before .pre .0 .fits)
 
 loop-less : tie.Need-loop-less Inv-loop μ-loop
 loop-less c =
-    let b = halts-bad (c .before .before .before .before .before .before .before .before .before .before .before .told-accepted .ensures) _ _ _ (c .before .before .before .before .before .why .given .1) (past-fits (c .before .before .before .before .before .before .before .before .before .before .before)) in
+    let b = halts-bad (c .before .before .before .before .before .before .before .before .before .before .before .told-accepted .ensures) _ _ _ (c .before .before .before .before .before .why .given .1) in
     omega (arith, b .1, b .2, b .3, moved (c .before .before .before .before .before .before .before .before .before .before .before), c .before .before .before .before .before .before .before .before .before .before .before .before .before .loop .inv .within)
 
 loop-again : tie.Need-loop-again Inv-loop μ-loop
-loop-again c = passing-on windowOf _ _ _ _ _ _ _ _ _ _ _ _ _ _ (c .before .before .before .before .before .before .before .before .before .before .before .before .before .loop .inv) _ _ (c .before .before .before .before .before .before .before .before .before .before .before .told-accepted .ensures) _ _ _ (c .before .before .before .before .before .why .given .1) _ _ (c .before .before .refused .ensures)
+loop-again c = passing-on _ windowOf _ _ _ _ _ _ _ _ _ _ _ _ _ _ (c .before .before .before .before .before .before .before .before .before .before .before .before .before .loop .inv) _ _ (c .before .before .before .before .before .before .before .before .before .before .before .told-accepted .ensures) _ _ _ (c .before .before .before .before .before .why .given .1) _ _ (c .before .before .refused-line .ensures)
 
 pub told-frames-spec : {M : Type 1} → statement M
 told-frames-spec =
@@ -115,7 +104,7 @@ told-frames-spec =
     is-full-requires
     same-length
     returns
-    refused-requires
+    refused-line-requires
     add-i
     add-off
     add-fr

@@ -21,12 +21,12 @@ held-long c = search needs
 returns : tie.Need-returns
 returns c =
     let a = c .before .before .before .args in
-    called-used windowOf (a .w) (a .block .now) (a .from) (a .out .now) (a .at) (c .if1 .taken)
+    called-used _ windowOf (a .w) (a .block .now) (a .from) (a .out .now) (a .at) (c .if1 .taken)
 
 returns-2 : tie.Need-returns-2
 returns-2 c =
     let a = c .before .before .before .before .args in
-    called-full windowOf (a .w) (a .block .now) (a .from) (a .out .now) (a .at) (c .before .if1 .left) (omega (arith, c .if2 .taken))
+    called-full _ windowOf (a .w) (a .block .now) (a .from) (a .out .now) (a .at) (c .before .if1 .left) (omega (arith, c .if2 .taken))
 
 sub-if3 : tie.Need-sub-if3
 sub-if3 c = search needs
@@ -34,7 +34,7 @@ sub-if3 c = search needs
 returns-3 : tie.Need-returns-3
 returns-3 c =
     let a = c .before .before .before .before .before .args in
-    called-full windowOf (a .w) (a .block .now) (a .from) (a .out .now) (a .at) (c .before .before .if1 .left) (c .if3 .taken)
+    called-full _ windowOf (a .w) (a .block .now) (a .from) (a .out .now) (a .at) (c .before .before .if1 .left) (c .if3 .taken)
 
 sub-left : tie.Need-sub-left
 sub-left c = search needs
@@ -46,8 +46,8 @@ returns-4 : tie.Need-returns-4
 returns-4 c =
     let a = c .before .before .before .before .before .before .before .args in
     let i = c .before .before .before .before .if1 in
-    going-refused windowOf _ _ _ _ _ _ _ _ _
-    (going-start windowOf (a .block .now) (a .from) (a .out .now) (a .at) (a .w) (omega (arith, i .left)) (omega (arith, c .before .before .before .if2 .left)))
+    going-refused _ windowOf _ _ _ _ _ _ _ _ _
+    (going-start _ windowOf (a .block .now) (a .from) (a .out .now) (a .at) (a .w) (omega (arith, i .left)) (omega (arith, c .before .before .before .if2 .left)))
     (stepOf windowOf (a .w) (drop (a .from) (a .block .now))) (i .left) (c .before .before .if3 .left) refl
     (ready-refused windowOf (a .w) (drop (a .from) (a .block .now)) (ap (readyOf (a .w)) (length-drop (a .from) (a .block .now)) ∙ sym (c .before .ready .ensures) ∙ not-true _ (c .if4 .taken)))
 
@@ -66,6 +66,7 @@ from-start-requires c κs =
     let r = ready-all (a .w) (length (a .block .now) - a .from) (sym (ready .ready .ensures) ∙ not-false _ (rows .before .if4 .left)) in (
       omega (arith, ready .before .before .before .if1 .left),
       omega (arith, ready .before .before .if2 .left),
+      omega (arith, ready .before .if3 .left),
       omega (arith, r .room),
       r .two,
       r .counted,
