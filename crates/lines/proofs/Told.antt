@@ -1,6 +1,6 @@
 -- The loops that tell of frames, over plain values: what was told so far.
 -- Assumes nothing.
-use Prim.Native.Nat.{ℕ, _+_, _-_, _*_, _^_, _≤_, _<_, min}
+use Prim.Native.Nat.{ℕ, _+_, _-_, _*_, _≤_, _<_, min}
 use mathlib.Core.Path.{_≡_, refl, sym, ap, subst, _∙_}
 use mathlib.Core.Bool.{Bool, true, false, cond, false≢true}
 use mathlib.Core.List.{List, [], _∷_, _++_, append-assoc, append-nil}
@@ -24,7 +24,7 @@ use Rattle.text.proofs.Laws.{wrote-none, wrote-append, wrote-as, wrote-long}
 use Rattle.lines.proofs.Halt.{enum}
 use Rattle.lines.specs.declared.Halt.{Halt}
 use Rattle.lines.specs.declared.Halted.{Halted}
-use Rattle.lines.specs.declared.Look.the-variants.{Tag, Bad as Ill}
+use Rattle.lines.specs.declared.Look.the-variants.{Bad as Ill}
 use Rattle.lines.specs.declared.Halt.the-variants.{Cut, Full, Bad as Refused}
 use Rattle.lines.specs.Lines.{acceptedOf, refusedOf, lineOf, linesOf}
 use Rattle.lines.specs.Blocks.{longest}

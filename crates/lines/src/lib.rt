@@ -358,8 +358,7 @@ pub enum Why {
     Stopped,
 }
 
-// How far a call came: the state behind the frames told of and, in part, behind the bytes of a further one; where it is in the block and in the buffer; and
-// why it came back.
+// What a call leaves: the state; the place in the block to go on from, and the place in the buffer behind the last line put; and why it came back.
 pub struct Blocked {
     pub state: Walk,
     pub from: usize,

@@ -1,6 +1,6 @@
 -- `lines::told_accepted` meets its contract.
 -- Assumes nothing.
-use Prim.Native.Nat.{_+_, _-_}
+use Prim.Native.Nat.{_-_}
 use mathlib.Core.Path.{refl, sym, _∙_}
 use mathlib.Core.Logic.{inl, inr}
 use Rattle.text.proofs.Laws.{wrote-long}
