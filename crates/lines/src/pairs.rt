@@ -1,4 +1,4 @@
-// The two digits of each number below 100, one pair behind the other. Every line begins with an offset: its digits are taken from this table, which
+// The two digits of each number below 100, one pair behind the other. The line of an accepted frame begins with its offset: the digits are taken from this table, which
 // is lent on from the function that walks a block, since a table that is indexed where it stands would be built again for each line.
 pub const PAIRS: [u8; 200] = *b"\
     00010203040506070809\
