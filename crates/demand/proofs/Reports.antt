@@ -2,7 +2,7 @@
 -- Assumes nothing.
 use Prim.Native.Nat.{ℕ, _+_, _-_, min}
 use mathlib.Core.Path.{_≡_, refl, ap, _∙_}
-use mathlib.Core.Bool.{Bool, true, false, cond}
+use mathlib.Core.Bool.{cond}
 use mathlib.Core.List.{List}
 use lib.Dec.{ltb}
 use lib.ListN.{length, take}
@@ -10,7 +10,7 @@ use Rattle.records.proofs.Back.{body-back}
 use Rattle.reader.specs.declared.Window.{Window}
 use Rattle.reader.specs.declared.Window.the-variants.{Message, Incomplete, Refused}
 use Rattle.reader.specs.Window.{windowM}
-use Rattle.laws.proofs.Unique.{one-to-one}
+use Rattle.laws.proofs.Unique.{one-to-one, pushed}
 use Rattle.walk.specs.declared.Walk.{Walk}
 use Rattle.walk.specs.declared.Stepped.{Stepped}
 use Rattle.walk.specs.declared.Verdict.{Verdict}
@@ -36,20 +36,11 @@ ruling-unique = one-to-one rulingM rulingFrom ruling-back
 pub report-unique : (a a′ : Answer) → reportM a ≡ reportM a′ → a ≡ a′
 report-unique = one-to-one reportM reportFrom report-back
 
--- a test of an answer is the test of its meaning
-ruled : (b : Bool) (x y : Verdict) → rulingM (cond b x y) ≡ cond b (rulingM x) (rulingM y)
-ruled true x y = refl
-ruled false x y = refl
-
 abbrev said : Stepped → Report
 said x = reportM (x .answer)
 
-pushed : (b : Bool) (x y : Stepped) → said (cond b x y) ≡ cond b (said x) (said y)
-pushed true x y = refl
-pushed false x y = refl
-
 verdict-means : (w : Window) (size : ℕ) → rulingM (verdictOf w size) ≡ rulingOf (windowM w) size
-verdict-means (Message m used) size = ruled (ltb used size) (Bad 21 0) (Accepted m)
+verdict-means (Message m used) size = pushed rulingM (ltb used size) (Bad 21 0) (Accepted m)
 verdict-means Incomplete size = refl
 verdict-means (Refused n p) size = refl
 
@@ -66,7 +57,7 @@ module _ (win : List ℕ → Window) where
   unfolding movedBy doneOf judgeOf
   moved-means w h n =
       let b = ltb (w .seen + n) (frameSize h) in
-      pushed b (moreOf w h n) (doneOf w (frameSize h - w .seen) (frameSize h) (judgeOf win h (frameSize h)))
+      pushed said b (moreOf w h n) (doneOf w (frameSize h - w .seen) (frameSize h) (judgeOf win h (frameSize h)))
       ∙ ap (λ (x : Ruling). cond b more (frame (w .offset) (frameSize h) x)) (verdict-means (win (take (min (frameSize h) 52) h)) (frameSize h))
 
   pub step-means : (w : Walk) (piece : List ℕ) → reportM (stepOf win w piece .answer) ≡ stepReport (λ s. windowM (win s)) w piece
@@ -74,6 +65,6 @@ module _ (win : List ℕ → Window) where
   step-means w piece =
       let b = countable (w .offset) (w .seen) (length piece) in
       let go = movedBy win w (put (w .held) (w .seen) piece) (length piece) in
-      pushed (soundOf w) (cond b go (refusedOf w 33)) (refusedOf w 30)
+      pushed said (soundOf w) (cond b go (refusedOf w 33)) (refusedOf w 30)
       ∙ ap (λ (x : Report). cond (soundOf w) x (fault 30))
-      (pushed b go (refusedOf w 33) ∙ ap (λ (x : Report). cond b x (fault 33)) (moved-means w (put (w .held) (w .seen) piece) (length piece)))
+      (pushed said b go (refusedOf w 33) ∙ ap (λ (x : Report). cond b x (fault 33)) (moved-means w (put (w .held) (w .seen) piece) (length piece)))

@@ -2,6 +2,7 @@
 -- equation on the answer itself need none of this.)
 -- Assumes nothing.
 use mathlib.Core.Path.{_≡_, refl, sym, ap, _∙_}
+use mathlib.Core.Bool.{Bool, true, false, cond}
 use Prim.Native.Nat.{ℕ}
 use lib.ListN.{getD}
 use Rattle.format.specs.Layout.{Got, got, short, refused, Answer, accepted, incomplete, refuses}
@@ -33,6 +34,11 @@ use Rattle.reader.proofs.Back.{window-back}
 -- a meaning m that has a left inverse is one-to-one
 pub one-to-one : {A B : Type 0} (m : A → B) (back : B → A) → ((r : A) → back (m r) ≡ r) → (r r′ : A) → m r ≡ m r′ → r ≡ r′
 one-to-one m back h r r′ e = sym (h r) ∙ ap back e ∙ h r′
+
+-- the meaning of a test's answer is that of the answer which the test picks
+pub pushed : {A B : Type 0} (m : A → B) (b : Bool) (x y : A) → m (cond b x y) ≡ cond b (m x) (m y)
+pushed m true x y = refl
+pushed m false x y = refl
 
 -- the answer of an enum with a value and a fault, from its field's answer
 abbrev field-back : {A : Type 0} → (ℕ → A) → (Fault → A) → Got → A

@@ -73,90 +73,90 @@ row-gives {s} (_⨾_ {k = k} {at = at} {v = v} e r) = gives k (field k s at) v (
 
 -- ---- row by row: the values of the body made of a row's values
 
-abbrev Again : ℕ → Type 0
-Again t = (vs : List ℕ) → Row-gives (fieldsIn (find rows t)) vs → values (bodyFrom (t ∷ vs)) ≡ t ∷ vs
+abbrev SameValues : ℕ → Type 0
+SameValues t = (vs : List ℕ) → Row-gives (fieldsIn (find rows t)) vs → values (bodyFrom (t ∷ vs)) ≡ t ∷ vs
 
-row-A : Again 'A'
+row-A : SameValues 'A'
 unfolding bodyFrom
 row-A _ (a-number & a-code s & a-number & a-text & a-number & none-left) = simp (side-code _ s)
 
-row-F : Again 'F'
+row-F : SameValues 'F'
 unfolding bodyFrom
 row-F _ (a-number & a-code s & a-number & a-text & a-number & a-text & none-left) = simp (side-code _ s)
 
-row-B : Again 'B'
+row-B : SameValues 'B'
 unfolding bodyFrom
 row-B _ (a-number & none-left) = refl
 
-row-D : Again 'D'
+row-D : SameValues 'D'
 unfolding bodyFrom
 row-D _ (a-number & none-left) = refl
 
-row-C : Again 'C'
+row-C : SameValues 'C'
 unfolding bodyFrom
 row-C _ (a-number & a-number & a-number & a-code y & a-number & none-left) = simp (yesNo-code _ y)
 
-row-E : Again 'E'
+row-E : SameValues 'E'
 unfolding bodyFrom
 row-E _ (a-number & a-number & a-number & none-left) = refl
 
-row-H : Again 'H'
+row-H : SameValues 'H'
 unfolding bodyFrom
 row-H _ (a-text & a-code c & nothing & a-text & none-left) = simp (tradingState-code _ c)
 
-row-I : Again 'I'
+row-I : SameValues 'I'
 unfolding bodyFrom
 row-I _ (a-number & a-number & a-code d & a-text & a-number & a-number & a-number & a-code x & a-number & none-left) = simp (direction-code _ d, imbalance-code _ x)
 
-row-J : Again 'J'
+row-J : SameValues 'J'
 unfolding bodyFrom
 row-J _ (a-text & a-number & a-number & a-number & a-number & none-left) = refl
 
-row-K : Again 'K'
+row-K : SameValues 'K'
 unfolding bodyFrom
 row-K _ (a-text & a-number & a-code q & a-number & none-left) = simp (qualifier-code _ q)
 
-row-L : Again 'L'
+row-L : SameValues 'L'
 unfolding bodyFrom
 row-L _ (a-text & a-text & a-code y & a-code m & a-code p & none-left) = simp (yesNo-code _ y, makerMode-code _ m, participantState-code _ p)
 
-row-N : Again 'N'
+row-N : SameValues 'N'
 unfolding bodyFrom
 row-N _ (a-text & a-code i & none-left) = simp (interest-code _ i)
 
-row-P : Again 'P'
+row-P : SameValues 'P'
 unfolding bodyFrom
 row-P _ (a-number & a-code s & a-number & a-text & a-number & a-number & none-left) = simp (side-code _ s)
 
-row-Q : Again 'Q'
+row-Q : SameValues 'Q'
 unfolding bodyFrom
 row-Q _ (a-number & a-text & a-number & a-number & a-code x & none-left) = simp (cross-code _ x)
 
-row-R : Again 'R'
+row-R : SameValues 'R'
 unfolding bodyFrom
 row-R _ (a-text & a-code c & a-code f & a-number & a-code y & a-code i & a-subtype u & a-code p & a-code h & a-code o & a-code l & an-etp z e & a-number & a-code v & none-left) = simp (category-code _ c, status-code _ f, yesNo-code _ y, class-code _ i, subtype-code _ u, authenticity-code _ p, flag-code _ h, flag-code _ o, tier-code _ l, etp-code z e, yesNo-code _ v)
 
-row-S : Again 'S'
+row-S : SameValues 'S'
 unfolding bodyFrom
 row-S _ (a-code e & none-left) = simp (event-code _ e)
 
-row-U : Again 'U'
+row-U : SameValues 'U'
 unfolding bodyFrom
 row-U _ (a-number & a-number & a-number & a-number & none-left) = refl
 
-row-V : Again 'V'
+row-V : SameValues 'V'
 unfolding bodyFrom
 row-V _ (a-number & a-number & a-number & none-left) = refl
 
-row-W : Again 'W'
+row-W : SameValues 'W'
 unfolding bodyFrom
 row-W _ (a-code l & none-left) = simp (level-code _ l)
 
-row-X : Again 'X'
+row-X : SameValues 'X'
 unfolding bodyFrom
 row-X _ (a-number & a-number & none-left) = refl
 
-row-Y : Again 'Y'
+row-Y : SameValues 'Y'
 unfolding bodyFrom
 row-Y _ (a-text & a-code a & none-left) = simp (action-code _ a)
 
@@ -165,7 +165,7 @@ data Each (P : ℕ → Type 0) : List Row → Type 0 where
   _and_ : {r : Row} {rs : List Row} → P (r .tag) → Each P rs → Each P (r ∷ rs)
 
 infixr 20 _and_
-every-row : Each Again rows
+every-row : Each SameValues rows
 every-row =
     row-A
     and row-F
@@ -210,4 +210,4 @@ under-again none s t ws n h e = let z : _≡_ {A = ℕ} 0 1 = cc in absurd (omeg
 
 pub body-again : (t : ℕ) (s ws : List ℕ) (n : ℕ) → bodyOf t s ≡ accepted ws n → values (bodyFrom ws) ≡ ws
 unfolding bodyOf
-body-again t s ws n e = under-again (find rows t) s t ws n (λ r q vs g. one-row Again rows every-row t {r = r} q vs g) e
+body-again t s ws n e = under-again (find rows t) s t ws n (λ r q vs g. one-row SameValues rows every-row t {r = r} q vs g) e

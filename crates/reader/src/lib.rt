@@ -44,6 +44,7 @@ fn parse_body(s: &[u8], tag: u8) -> BodyRead
     }
 }
 
+// Reads one window: its message and the bytes consumed, incomplete, or the first bad field's number and place.
 pub fn parse_message(s: &[u8]) -> Window
     ensures { λ r. ⌜ windowM r ≡ window (now (s .entry)) ⌝ }
 {

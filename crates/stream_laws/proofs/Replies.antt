@@ -10,7 +10,7 @@ use Rattle.records.proofs.Back.{body-back}
 use Rattle.reader.specs.declared.Window.{Window}
 use Rattle.reader.specs.declared.Window.the-variants.{Message as Accepted, Incomplete, Refused as Bad}
 use Rattle.reader.specs.Window.{windowM, windowOf}
-use Rattle.laws.proofs.Unique.{one-to-one}
+use Rattle.laws.proofs.Unique.{one-to-one, pushed}
 use Rattle.stream.specs.declared.Stream.{Stream}
 use Rattle.stream.specs.declared.Step.{Step}
 use Rattle.stream.specs.declared.Answer.{Answer}
@@ -36,23 +36,19 @@ abbrev said : Step → Reply
 said x = replyM (x .answer)
 
 -- the tests of a call, which are the same of its answer's meaning
-pushed : (b : Bool) (x y : Step) → said (cond b x y) ≡ cond b (said x) (said y)
-pushed true x y = refl
-pushed false x y = refl
-
 sized-said : (s : Stream) (len : ℕ) (go : Step) → said (sized len (refuses s) go) ≡ sized len fault (said go)
-sized-said s len go = pushed (eqb len 8192) go (refuses s 31)
+sized-said s len go = pushed said (eqb len 8192) go (refuses s 31)
 
 bounds-said : (s : Stream) (go : Step) → said (inBounds s (refuses s) go) ≡ inBounds s fault (said go)
 bounds-said s go =
-    pushed (leb (s .start) (s .end)) _ (refuses s 30)
-    ∙ ap (λ (x : Reply). cond (leb (s .start) (s .end)) x (fault 30)) (pushed (leb (s .end) 8192) go (refuses s 30))
+    pushed said (leb (s .start) (s .end)) _ (refuses s 30)
+    ∙ ap (λ (x : Reply). cond (leb (s .start) (s .end)) x (fault 30)) (pushed said (leb (s .end) 8192) go (refuses s 30))
 
 marks-said : (s : Stream) (n p : ℕ) → said (marks s n p) ≡ toldOnce s n p
-marks-said s n p = pushed (s .error) _ _
+marks-said s n p = pushed said (s .error) _ _
 
 by-said : (s : Stream) (w : Window) → said (nextBy s w) ≡ nextReplyBy s (windowM w)
-by-said s (Accepted m n) = pushed (eqb (s .messages) 18446744073709551615) (refuses s 33) (taken s m n)
+by-said s (Accepted m n) = pushed said (eqb (s .messages) 18446744073709551615) (refuses s 33) (taken s m n)
 by-said s Incomplete = refl
 by-said s (Bad n p) = marks-said s n p
 
@@ -77,8 +73,8 @@ room-means s len =
     let go : Step = cond (eqb (s .end) 8192) (roomy s 0 (s .end - s .start)) (roomy s (s .start) (s .end)) in
     sized-said s len _
     ∙ ap (sized len fault) (bounds-said s (cond long (refuses s 34) (cond full (refuses s 33) go))
-    ∙ ap (inBounds s fault) (pushed long (refuses s 34) (cond full (refuses s 33) go)
-    ∙ ap (cond long (fault 34)) (pushed full (refuses s 33) go ∙ ap (cond full (fault 33)) (both-ready (eqb (s .end) 8192) _ _ refl refl))))
+    ∙ ap (inBounds s fault) (pushed said long (refuses s 34) (cond full (refuses s 33) go)
+    ∙ ap (cond long (fault 34)) (pushed said full (refuses s 33) go ∙ ap (cond full (fault 33)) (both-ready (eqb (s .end) 8192) _ _ refl refl))))
 
 pub told-means : (s : Stream) (n : ℕ) → replyM (toldOf s n .answer) ≡ toldReply s n
 unfolding toldOf
@@ -87,10 +83,10 @@ told-means s n =
     let counts = leb n (18446744073709551615 - s .«bytes_read») in
     let came : Step = cond (ltb 0 n) (fed s n) (ended s) in
     bounds-said s (cond fits (cond counts came (refuses s 33)) (refuses s 32))
-    ∙ ap (inBounds s fault) (pushed fits (cond counts came (refuses s 33)) (refuses s 32)
-    ∙ ap (λ (x : Reply). cond fits x (fault 32)) (pushed counts came (refuses s 33)
-    ∙ ap (λ (x : Reply). cond counts x (fault 33)) (pushed (ltb 0 n) (fed s n) (ended s)
-    ∙ ap (cond (ltb 0 n) ready) (pushed (eqb (s .start) (s .end)) _ (marks s 10 0) ∙ ap (cond (eqb (s .start) (s .end)) nothing) (marks-said s 10 0)))))
+    ∙ ap (inBounds s fault) (pushed said fits (cond counts came (refuses s 33)) (refuses s 32)
+    ∙ ap (λ (x : Reply). cond fits x (fault 32)) (pushed said counts came (refuses s 33)
+    ∙ ap (λ (x : Reply). cond counts x (fault 33)) (pushed said (ltb 0 n) (fed s n) (ended s)
+    ∙ ap (cond (ltb 0 n) ready) (pushed said (eqb (s .start) (s .end)) _ (marks s 10 0) ∙ ap (cond (eqb (s .start) (s .end)) nothing) (marks-said s 10 0)))))
 
 pub failed-means : (s : Stream) → replyM (failedOf s .answer) ≡ failedReply s
 unfolding failedOf

@@ -2,10 +2,10 @@
 -- Assumes nothing.
 use Prim.Native.Nat.{ℕ, _+_, _^_}
 use mathlib.Core.Path.{_≡_, refl, ap, _∙_}
-use mathlib.Core.Bool.{Bool, true, false, cond}
+use mathlib.Core.Bool.{Bool, cond}
 use lib.Dec.{ltb, leb, eqb}
 use Rattle.format.specs.Rows.{sizeOf}
-use Rattle.laws.proofs.Unique.{one-to-one}
+use Rattle.laws.proofs.Unique.{one-to-one, pushed}
 use Rattle.records.specs.declared.Message.{Message}
 use Rattle.records.specs.Values.{values}
 use Rattle.writer.specs.declared.Written.{Written}
@@ -21,20 +21,16 @@ outcome-back (Refused n) = refl
 pub outcome-unique : (w w′ : Written) → outcomeM w ≡ outcomeM w′ → w ≡ w′
 outcome-unique = one-to-one outcomeM outcomeFrom outcome-back
 
-pushed : (b : Bool) (x y : Written) → outcomeM (cond b x y) ≡ cond b (outcomeM x) (outcomeM y)
-pushed true x y = refl
-pushed false x y = refl
-
 -- a test whose other way refuses with n
-tested : (b : Bool) (x : Written) (n : ℕ) {y : Outcome} → outcomeM x ≡ y → outcomeM (cond b x (Refused n)) ≡ cond b y (refused n)
-tested b x n e = pushed b x (Refused n) ∙ ap (λ (z : Outcome). cond b z (refused n)) e
+refusing : (b : Bool) (x : Written) (n : ℕ) {y : Outcome} → outcomeM x ≡ y → outcomeM (cond b x (Refused n)) ≡ cond b y (refused n)
+refusing b x n e = pushed outcomeM b x (Refused n) ∙ ap (λ (z : Outcome). cond b z (refused n)) e
 
 pub write-means : (m : Message) (room : ℕ) → outcomeM (writtenOf m room) ≡ outcomeOf m room
 unfolding writtenOf
 write-means m room =
     let fits = leb (2 + sizeOf (m .tag)) room in
     let day = intraday (values (m .body)) in
-    tested (eqb (m .tag) (tagOf (m .body))) _ 40
-    (tested (ltb (m .timestamp) (2 ^ 48)) _ 41
-    (tested (textsOf (values (m .body))) _ 42
-    (pushed day (Refused 43) _ ∙ ap (cond day (refused 43)) (pushed fits (Done (2 + sizeOf (m .tag))) (Refused 44)))))
+    refusing (eqb (m .tag) (tagOf (m .body))) _ 40
+    (refusing (ltb (m .timestamp) (2 ^ 48)) _ 41
+    (refusing (textsOf (values (m .body))) _ 42
+    (pushed outcomeM day (Refused 43) _ ∙ ap (cond day (refused 43)) (pushed outcomeM fits (Done (2 + sizeOf (m .tag))) (Refused 44)))))
