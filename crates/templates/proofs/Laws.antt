@@ -58,13 +58,18 @@ module _ (t : List ℕ) (i : ℕ) where
     past-none s q h = none-at h ∙ ap (λ (l : List ℕ). drop 1 l) (rw (none-at h) at q)
 
   module _ (v last : ℕ) where
-    pub name-stop : i < length t → isName v last (getD t i 0) ≡ true → nameOf v last (drop i t) ≡ drop (i + 1) t
+    pub name-closes : i < length t → getD t i 0 ≡ closing → nameOf v last (drop i t) ≡ []
     unfolding nameOf
-    name-stop h e = ap (nameOf v last) (cons-at h) ∙ rw e
+    name-closes h e = ap (nameOf v last) (cons-at h) ∙ rw (eq-eqb (getD t i 0) closing e)
 
-    pub name-more : i < length t → isName v last (getD t i 0) ≡ false → nameOf v last (drop i t) ≡ nameOf v (last % 256 * 256 + getD t i 0) (drop (i + 1) t)
+    pub name-stop : i < length t → (getD t i 0 ≡ closing → ⊥) → isName v last (getD t i 0) ≡ true → nameOf v last (drop i t) ≡ drop (i + 1) t
     unfolding nameOf
-    name-more h e = ap (nameOf v last) (cons-at h) ∙ rw e
+    name-stop h z e = ap (nameOf v last) (cons-at h) ∙ rw (ne-eqb (getD t i 0) closing z, e)
+
+    pub name-more : i < length t → (getD t i 0 ≡ closing → ⊥) → isName v last (getD t i 0) ≡ false
+        → nameOf v last (drop i t) ≡ nameOf v (last % 256 * 256 + getD t i 0) (drop (i + 1) t)
+    unfolding nameOf
+    name-more h z e = ap (nameOf v last) (cons-at h) ∙ rw (ne-eqb (getD t i 0) closing z, e)
 
     pub name-none : length t ≤ i → nameOf v last (drop i t) ≡ drop i t
     unfolding nameOf

@@ -1,6 +1,7 @@
 -- The text of a template and its values. A template's bytes are put as they are, but for the places, which stand in braces and where the next value is
 -- put: {n} is its decimal; {8}, {4} and {1} are its last eight, four and one bytes as text; any other place lists names, each behind its code and `=`
--- and before a comma, as {B=Buy,S=Sell,}: the name of the value is put. {. ends the template, and so does a place for which there is no value.
+-- and before a comma, as {B=Buy,S=Sell,}: the name of the value is put. {. ends the template, and so does a place that has no value or no
+-- name for its value.
 -- Assumes nothing.
 use Prim.Native.Nat.{ℕ, zero, suc, _+_, _-_, _*_, _/_, _%_, _^_}
 use mathlib.Core.Bool.{Bool, cond, not, _&&_, _||_}
@@ -75,7 +76,8 @@ widthOf k = cond (eqb k '8') 8 (cond (eqb k '4') 4 1)
 unfoldable pub letterOf : ℕ → ℕ → List ℕ
 letterOf k v = cond (eqb k 'n') (decimalOf v) (bytesOf (widthOf k) v)
 
--- from the name of a code on: behind the first `=` before which the code stands, of one byte or two; `last` is the two bytes before t
+-- from the name of a code on: behind the first `=` before which the code stands, of one byte or two; nothing where the braces close before.
+-- `last` is the two bytes before t
 abbrev pub isName : ℕ → ℕ → ℕ → Bool
 isName v last b = eqb b equals && (eqb last v || eqb (last % 256) v)
 
@@ -83,7 +85,7 @@ unfoldable pub nameOf : ℕ → ℕ → List ℕ → List ℕ
 nameOf v last [] = []
 nameOf v last (b ∷ t) =
     let rest = nameOf v (last % 256 * 256 + b) t in
-    cond (isName v last b) t rest
+    cond (eqb b closing) [] (cond (isName v last b) t rest)
 
 -- a place, from behind its opening brace on: whether it is a letter alone; the text of a value; and what stands behind it
 abbrev pub isLetter : List ℕ → Bool

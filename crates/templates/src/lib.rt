@@ -172,7 +172,7 @@ fn names(v: u64, last: u64, b: u8) -> bool
     last % 256 == v
 }
 
-// Where the name of a code begins.
+// Where the name of a code begins; the table's end where the braces have none.
 fn named(table: &[u8], start: usize, v: u64) -> usize
     requires { ⌜ start ≤ length (now table) ⌝ }
     ensures { λ r. ⌜ (start ≤ r) × (r ≤ length (now (table .entry))) ⌝ }
@@ -182,6 +182,9 @@ fn named(table: &[u8], start: usize, v: u64) -> usize
     let mut i = start;
     while i < table.len() {
         let b = table[i];
+        if b == b'}' {
+            return table.len();
+        }
         if names(v, last, b) {
             return i + 1;
         }
