@@ -1,6 +1,4 @@
 // Lines by templates: text with places for values. The text of a template is defined in specs/Templates.antt.
-ghost use mathlib.Core.Bool.{_&&_};
-ghost use mathlib.Core.List.{_∷_};
 ghost use mathlib.Core.Path.{_≡_};
 ghost use Prim.Native.Nat.{_+_, _-_, _*_, _≤_};
 ghost use lib.ListN.{length, getD, drop};

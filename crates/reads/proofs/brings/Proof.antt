@@ -1,7 +1,6 @@
 -- `reads::brings` meets its contract.
 -- Assumes nothing.
 use borrow.Author.Tests.{lt-ltb, le-ltb}
-use mathlib.Core.Path.{sym}
 use Rattle.reads.specs.Reads.{bringsOf}
 use borrow.Author.Needs.{needs}
 use Rattle.reads.proofs.brings.Statement.{statement}

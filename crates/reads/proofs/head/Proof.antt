@@ -1,9 +1,7 @@
 -- `reads::head` meets its contract.
 -- Assumes nothing.
-use Prim.Native.Nat.{_+_, _*_}
-use mathlib.Core.Path.{_∙_}
+use Prim.Native.Nat.{_+_}
 use native.Mathlib.Omega.{arith}
-use mathlib.Core.Path.{sym}
 use Rattle.reads.proofs.Laws.{head-at}
 use borrow.Author.Needs.{needs}
 use Rattle.reads.proofs.head.Statement.{statement}

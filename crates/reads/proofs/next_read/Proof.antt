@@ -1,8 +1,6 @@
 -- `reads::next_read` meets its contract.
 -- Assumes nothing.
-use Prim.Native.Nat.{_≤_}
-use mathlib.Core.Path.{_∙_, ap}
-use native.Mathlib.Omega.{arith}
+use mathlib.Core.Path.{_∙_}
 use Rattle.reads.specs.Reads.{nextOf, bytesOf}
 use Rattle.reads.proofs.Laws.{held-before}
 use borrow.Author.Needs.{needs}

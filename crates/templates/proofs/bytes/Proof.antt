@@ -1,12 +1,7 @@
 -- `templates::bytes` meets its contract.
 -- Assumes nothing.
-use Prim.Native.Nat.{ℕ, _+_, _≤_}
-use mathlib.Core.List.{List}
-use mathlib.Core.Path.{_≡_, refl, sym, _∙_}
+use mathlib.Core.Path.{_≡_, refl}
 use native.Mathlib.Omega.{arith}
-use lib.ListN.{length}
-use Rattle.text.specs.Decimal.{Wrote}
-use Rattle.templates.specs.Templates.{shownOf}
 use Rattle.templates.proofs.Laws.{Spelling, spelling-more, spelling-end}
 use Rattle.templates.proofs.bytes.Statement.{statement}
 use Rattle.templates.proofs.bytes.Tie as tie

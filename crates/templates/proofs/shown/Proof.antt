@@ -1,11 +1,8 @@
 -- `templates::shown` meets its contract.
 -- Assumes nothing.
-use Prim.Native.Nat.{_+_, _≤_}
-use mathlib.Core.Path.{_≡_, refl, sym, _∙_}
+use mathlib.Core.Path.{_≡_, sym, _∙_}
 use mathlib.Core.Bool.{true, false}
 use native.Mathlib.Omega.{arith}
-use lib.ListN.{length}
-use Rattle.text.specs.Decimal.{Wrote}
 use Rattle.text.proofs.Laws.{wrote-byte}
 use Rattle.templates.specs.Templates.{stays, shownOf}
 use borrow.Author.Needs.{needs}
