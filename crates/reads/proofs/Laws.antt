@@ -17,7 +17,7 @@ pub head-at : (s : List ℕ) (i : ℕ) → headOf (drop i s) ≡ getD s i 0 * 25
 head-at s i = simp (getD-drop, add-zero)
 
 -- a read stands within its list
-pub read-inside : (t : List ℕ) → isRead t ≡ true → 2 + bringsOf t ≤ length t
+read-inside : (t : List ℕ) → isRead t ≡ true → 2 + bringsOf t ≤ length t
 unfolding isRead bringsOf
 read-inside t e = go (ltb (length t) 2) refl (ltb 8192 (headOf t)) refl
   where
@@ -29,6 +29,9 @@ read-inside t e = go (ltb (length t) 2) refl (ltb 8192 (headOf t)) refl
     go false x false y =
         let z : leb (headOf t) (length t - 2) ≡ true = rw (x, y) at e in
         rw y (omega (arith, ltb-false (length t) 2 x, leb-true (headOf t) (length t - 2) z))
+
+pub read-far : (s : List ℕ) (i : ℕ) → i ≤ length s → isRead (drop i s) ≡ true → i + 2 + bringsOf (drop i s) ≤ length s
+read-far s i h e = omega (arith, rw length-drop at (read-inside (drop i s) e))
 
 -- behind some of the reads from a place on: what stands behind the others is what stands behind all
 pub record Passing (list : List ℕ) (from i : ℕ) : Type 0 where
@@ -46,7 +49,7 @@ module _ (list : List ℕ) (from : ℕ) where
   passing-more i p e = go (p .fuel) (p .enough) (p .same)
     where
       far : i + 2 + bringsOf (drop i list) ≤ length list
-      far = omega (arith, rw length-drop at (read-inside (drop i list) e), p .inside)
+      far = read-far list i (p .inside) e
 
       go : (k : ℕ) → length list ≤ i + k → pastReads k (drop i list) ≡ pastReads (length list) (drop from list)
           → Passing list from (i + 2 + bringsOf (drop i list))

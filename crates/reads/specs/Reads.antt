@@ -15,11 +15,11 @@ headOf t = getD t 0 0 * 256 + getD t 1 0
 
 -- a list begins with a case's end
 unfoldable pub closes : List ℕ → Bool
-closes t = cond (ltb (length t) 2) false (eqb (headOf t) 65535)
+closes t = cond (ltb (length t) 2) false (eqb (headOf t) 0xffff)
 
 -- it begins with a read: one that fails, or one whose bytes are there
 unfoldable pub isRead : List ℕ → Bool
-isRead t = cond (ltb (length t) 2) false (cond (ltb 8192 (headOf t)) (eqb (headOf t) 65534) (leb (headOf t) (length t - 2)))
+isRead t = cond (ltb (length t) 2) false (cond (ltb 8192 (headOf t)) (eqb (headOf t) 0xfffe) (leb (headOf t) (length t - 2)))
 
 -- how many bytes it brings
 unfoldable pub bringsOf : List ℕ → ℕ
@@ -46,7 +46,7 @@ dueOf list p =
 unfoldable pub failsOf : List ℕ → Place → Bool
 failsOf list p =
     let t = drop (p .i) list in
-    cond (ltb 0 (p .left)) false (cond (isRead t) (eqb (headOf t) 65534) false)
+    cond (ltb 0 (p .left)) false (cond (isRead t) (eqb (headOf t) 0xfffe) false)
 
 -- so many bytes stand before a place: all that a place says, or none, where they are not there
 unfoldable pub heldOf : List ℕ → Place → ℕ

@@ -7,9 +7,9 @@ ghost use lib.ListN.{length, take, drop};
 ghost use Rattle.reads.specs.Reads.{headOf, closes, isRead, bringsOf, caseEndOf, dueOf, failsOf, heldOf, nextOf, bytesOf, moreOf};
 
 // The heads: the case's end, a read that fails, and the most bytes that a read brings.
-const CLOSED: usize = 65535;
+const CLOSED: usize = 0xffff;
 
-const FAILS: usize = 65534;
+const FAILS: usize = 0xfffe;
 
 const MOST: usize = 8192;
 

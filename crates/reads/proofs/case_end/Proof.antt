@@ -3,8 +3,8 @@
 use Prim.Native.Nat.{_-_}
 use mathlib.Core.Path.{_∙_, sym}
 use native.Mathlib.Omega.{arith}
-use lib.ListN.{length, drop, length-drop}
-use Rattle.reads.proofs.Laws.{read-inside, Passing, passing-none, passing-more, case-closed, case-open, case-behind}
+use lib.ListN.{length}
+use Rattle.reads.proofs.Laws.{read-far, Passing, passing-none, passing-more, case-closed, case-open, case-behind}
 use Rattle.reads.proofs.case_end.Statement.{statement}
 use Rattle.reads.proofs.case_end.Tie as tie
 
@@ -24,16 +24,16 @@ is-read-requires : tie.Need-is-read-requires Inv-loop μ-loop
 is-read-requires c κs = c .loop .inv .inside
 
 add-i : tie.Need-add-i Inv-loop μ-loop
-add-i c = omega (arith, rw length-drop at (read-inside (drop (c .before .before .loop .i) (c .before .before .before .before .before .args .list .now)) (sym (c .before .is-read .ensures) ∙ c .if2 .taken)), c .before .before .loop .inv .inside)
+add-i c = omega (arith, read-far (c .before .before .before .before .before .args .list .now) (c .before .before .loop .i) (c .before .before .loop .inv .inside) (sym (c .before .is-read .ensures) ∙ c .if2 .taken))
 
 brings-requires : tie.Need-brings-requires Inv-loop μ-loop
-brings-requires c κs = omega (arith, rw length-drop at (read-inside (drop (c .before .before .loop .i) (c .before .before .before .before .before .args .list .now)) (sym (c .before .is-read .ensures) ∙ c .if2 .taken)), c .before .before .loop .inv .inside)
+brings-requires c κs = omega (arith, read-far (c .before .before .before .before .before .args .list .now) (c .before .before .loop .i) (c .before .before .loop .inv .inside) (sym (c .before .is-read .ensures) ∙ c .if2 .taken))
 
 add-i-2 : tie.Need-add-i-2 Inv-loop μ-loop
-add-i-2 c = omega (arith, rw length-drop at (read-inside (drop (c .before .before .before .loop .i) (c .before .before .before .before .before .before .args .list .now)) (sym (c .before .before .is-read .ensures) ∙ c .before .if2 .taken)), c .before .before .before .loop .inv .inside, c .brings .ensures)
+add-i-2 c = omega (arith, read-far (c .before .before .before .before .before .before .args .list .now) (c .before .before .before .loop .i) (c .before .before .before .loop .inv .inside) (sym (c .before .before .is-read .ensures) ∙ c .before .if2 .taken), c .brings .ensures)
 
 loop-less : tie.Need-loop-less Inv-loop μ-loop
-loop-less c = omega (arith, rw length-drop at (read-inside (drop (c .before .before .before .loop .i) (c .before .before .before .before .before .before .args .list .now)) (sym (c .before .before .is-read .ensures) ∙ c .before .if2 .taken)), c .before .before .before .loop .inv .inside, c .brings .ensures)
+loop-less c = omega (arith, read-far (c .before .before .before .before .before .before .args .list .now) (c .before .before .before .loop .i) (c .before .before .before .loop .inv .inside) (sym (c .before .before .is-read .ensures) ∙ c .before .if2 .taken), c .brings .ensures)
 
 loop-again : tie.Need-loop-again Inv-loop μ-loop
 loop-again c = rw (c .brings .ensures) (passing-more (c .before .before .before .before .before .before .args .list .now) (c .before .before .before .before .before .before .args .from) (c .before .before .before .loop .i) (c .before .before .before .loop .inv) (sym (c .before .before .is-read .ensures) ∙ c .before .if2 .taken))

@@ -3,9 +3,9 @@
 use mathlib.Core.Path.{_∙_, sym}
 use native.Mathlib.Omega.{arith}
 use borrow.Author.Tests.{lt-ltb, le-ltb, not-true, not-false}
-use lib.ListN.{drop, length-drop, drop-of-length-le}
+use lib.ListN.{drop-of-length-le}
 use Rattle.reads.specs.Reads.{isRead, dueOf}
-use Rattle.reads.proofs.Laws.{read-inside}
+use Rattle.reads.proofs.Laws.{read-far}
 use borrow.Author.Needs.{needs}
 use Rattle.reads.proofs.due.Statement.{statement}
 use Rattle.reads.proofs.due.Tie as tie
@@ -26,13 +26,13 @@ unfolding dueOf
 returns-3 c = rw (le-ltb 0 _ (c .before .before .before .if1 .left), sym (c .before .is-read .ensures) ∙ not-true _ (c .if3 .taken))
 
 brings-requires : tie.Need-brings-requires
-brings-requires c κs = omega (arith, rw length-drop at (read-inside (drop (c .before .before .before .before .before .before .args .p .i) (c .before .before .before .before .before .before .args .list .now)) (sym (c .before .is-read .ensures) ∙ not-false _ (c .if3 .left))))
+brings-requires c κs = omega (arith, read-far (c .before .before .before .before .before .before .args .list .now) (c .before .before .before .before .before .before .args .p .i) (omega arith) (sym (c .before .is-read .ensures) ∙ not-false _ (c .if3 .left)))
 
 add-t6 : tie.Need-add-t6
 add-t6 c = search needs
 
 add-t8 : tie.Need-add-t8
-add-t8 c = omega (arith, rw length-drop at (read-inside (drop (c .before .before .before .before .before .before .before .args .p .i) (c .before .before .before .before .before .before .before .args .list .now)) (sym (c .before .before .is-read .ensures) ∙ not-false _ (c .before .if3 .left))), c .brings .ensures)
+add-t8 c = omega (arith, read-far (c .before .before .before .before .before .before .before .args .list .now) (c .before .before .before .before .before .before .before .args .p .i) (omega arith) (sym (c .before .before .is-read .ensures) ∙ not-false _ (c .before .if3 .left)), c .brings .ensures)
 
 returns-4 : tie.Need-returns-4
 unfolding dueOf

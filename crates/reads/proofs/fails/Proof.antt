@@ -3,9 +3,9 @@
 use mathlib.Core.Path.{_∙_, sym}
 use native.Mathlib.Omega.{arith}
 use borrow.Author.Tests.{lt-ltb, le-ltb, not-true, not-false}
-use lib.ListN.{drop, length-drop, drop-of-length-le}
+use lib.ListN.{drop-of-length-le}
 use Rattle.reads.specs.Reads.{isRead, failsOf}
-use Rattle.reads.proofs.Laws.{read-inside}
+use Rattle.reads.proofs.Laws.{read-far}
 use borrow.Author.Needs.{needs}
 use Rattle.reads.proofs.fails.Statement.{statement}
 use Rattle.reads.proofs.fails.Tie as tie
@@ -26,7 +26,7 @@ unfolding failsOf
 returns-3 c = rw (le-ltb 0 _ (c .before .before .before .if1 .left), sym (c .before .is-read .ensures) ∙ not-true _ (c .if3 .taken))
 
 head-requires : tie.Need-head-requires
-head-requires c κs = omega (arith, rw length-drop at (read-inside (drop (c .before .before .before .before .before .before .args .p .i) (c .before .before .before .before .before .before .args .list .now)) (sym (c .before .is-read .ensures) ∙ not-false _ (c .if3 .left))))
+head-requires c κs = omega (arith, read-far (c .before .before .before .before .before .before .args .list .now) (c .before .before .before .before .before .before .args .p .i) (omega arith) (sym (c .before .is-read .ensures) ∙ not-false _ (c .if3 .left)))
 
 returns-4 : tie.Need-returns-4
 unfolding failsOf

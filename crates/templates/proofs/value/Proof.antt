@@ -1,7 +1,9 @@
 -- `templates::value` meets its contract.
 -- Assumes nothing.
-use mathlib.Core.Path.{sym, ap, _∙_}
+use Prim.Native.Nat.{_+_}
+use mathlib.Core.Path.{_≡_, sym, ap, _∙_}
 use native.Mathlib.Omega.{arith}
+use lib.ListN.{getD}
 use Rattle.text.proofs.Laws.{wrote-as}
 use Rattle.templates.specs.Templates.{closing, comma, until, from, past}
 use Rattle.templates.proofs.Laws.{letter-inside, letter-value, letter-behind, name-value, name-behind}
@@ -29,8 +31,12 @@ same-length c = search needs
 
 returns : tie.Need-returns
 returns c =
-    let i = letter-inside (c .before .before .before .before .before .before .before .before .before .args .table .now) (c .before .before .before .before .before .before .before .before .before .args .start) (c .before .before .before .before .before .before .before .before .before .args .v) (sym (c .before .before .before .before .before .before .byte-or .ensures) ∙ c .before .before .before .before .before .if1 .taken) in
-    ((i, omega (arith, i, c .before .before .letter .ensures .1)), (sym (letter-behind (c .before .before .before .before .before .before .before .before .before .args .table .now) (c .before .before .before .before .before .before .before .before .before .args .start) (c .before .before .before .before .before .before .before .before .before .args .v) (sym (c .before .before .before .before .before .before .byte-or .ensures) ∙ c .before .before .before .before .before .if1 .taken)), wrote-as (letter-value (c .before .before .before .before .before .before .before .before .before .args .table .now) (c .before .before .before .before .before .before .before .before .before .args .start) (c .before .before .before .before .before .before .before .before .before .args .v) (sym (c .before .before .before .before .before .before .byte-or .ensures) ∙ c .before .before .before .before .before .if1 .taken)) (c .before .before .letter .ensures .0)))
+    let a = c .before .before .before .before .before .before .before .before .before .args in
+    let e = sym (c .before .before .before .before .before .before .byte-or .ensures) ∙ c .before .before .before .before .before .if1 .taken in
+    let i = letter-inside (a .table .now) (a .start) (a .v) e in (
+      (i, omega (arith, i, c .before .before .letter .ensures .1)),
+      (sym (letter-behind (a .table .now) (a .start) (a .v) e), wrote-as (letter-value (a .table .now) (a .start) (a .v) e) (c .before .before .letter .ensures .0)),
+    )
 
 named-requires : tie.Need-named-requires
 named-requires c κs = search needs
@@ -52,13 +58,15 @@ same-length-2 c = search needs
 
 returns-2 : tie.Need-returns-2
 returns-2 c =
+    let a = c .before .before .before .before .before .before .before .before .before .before .args in
+    let d : getD (a .table .now) (a .start + 1) 0 ≡ closing → ⊥ = λ z. c .before .before .before .before .before .before .if1 .left (c .before .before .before .before .before .before .before .byte-or .ensures ∙ z) in
     let n = c .before .before .before .before .before .named .ensures in
     let e = c .before .before .before .copied .ensures in
     let b = c .behind .ensures in (
       (omega arith, omega (arith, n .0, e .0, b .0)),
       (
-        b .1 ∙ ap (past closing) (e .1 .0 ∙ ap (from comma) (n .1)) ∙ sym (name-behind (c .before .before .before .before .before .before .before .before .before .before .args .table .now) (c .before .before .before .before .before .before .before .before .before .before .args .start) (c .before .before .before .before .before .before .before .before .before .before .args .v) (λ z. c .before .before .before .before .before .before .if1 .left (c .before .before .before .before .before .before .before .byte-or .ensures ∙ z))),
-        wrote-as (name-value (c .before .before .before .before .before .before .before .before .before .before .args .table .now) (c .before .before .before .before .before .before .before .before .before .before .args .start) (c .before .before .before .before .before .before .before .before .before .before .args .v) (λ z. c .before .before .before .before .before .before .if1 .left (c .before .before .before .before .before .before .before .byte-or .ensures ∙ z)) ∙ ap (until comma) (sym (n .1))) (e .1 .1),
+        b .1 ∙ ap (past closing) (e .1 .0 ∙ ap (from comma) (n .1)) ∙ sym (name-behind (a .table .now) (a .start) (a .v) d),
+        wrote-as (name-value (a .table .now) (a .start) (a .v) d ∙ ap (until comma) (sym (n .1))) (e .1 .1),
       ),
     )
 
