@@ -5,16 +5,12 @@
 ghost use mathlib.Core.Path.{_≡_};
 ghost use Prim.Native.Nat.{_≤_};
 ghost use lib.ListN.{length};
-use flat::Flat;
 use play::Played;
 use reader::Window;
-use records::Message;
-use stream::Answer;
 use stream::Step;
 use stream::Stream;
-use walk::Verdict;
+use walk::Stepped;
 use walk::Walk;
-use writer::Written;
 
 // ---- the list
 
@@ -135,124 +131,7 @@ fn make(b: &mut [u8], fill: u64, place: usize, n: usize, list: &[u8], at: usize)
     at + least(n, list.len() - at)
 }
 
-// ---- the lines
-
-// The sum of bytes: each counts, one more than it is, as often as there are bytes from it on. A change of any of them changes it.
-fn sum(b: &[u8]) -> u64 {
-    let mut once = 0;
-    let mut all = 0;
-    let mut i = 0;
-    while i < b.len() {
-        once = (once + wide(b[i]) + 1) % 4294967296;
-        all = (all + once) % 4294967296;
-        i += 1;
-    }
-    all
-}
-
-// A word alone.
-fn word(layout: &[u8], out: &mut [u8], at: usize) -> usize {
-    let none = [0u64; 1];
-    layouts::put(layout, 0, &none[..0], out, at)
-}
-
-// What the stream answered.
-fn answered(f: Flat, out: &mut [u8], at: usize) -> usize {
-    let v = f.v;
-    if f.kind == flat::NOTHING {
-        return word(b" nothing{.", out, at);
-    }
-    if f.kind == flat::REFUSED {
-        return layouts::put(b" refused {n} {n}{.", 0, &[v[0], v[1]], out, at);
-    }
-    if f.kind == flat::WANTS {
-        return word(b" wants{.", out, at);
-    }
-    if f.kind == flat::READY {
-        return word(b" ready{.", out, at);
-    }
-    let next = layouts::put(
-        b" message {n} {n} {n} {n}{.",
-        0,
-        &[v[0], v[1], v[2], v[3]],
-        out,
-        at,
-    );
-    layouts::put(
-        b" {n} {n} {n} {n} {n} {n} {n} {n} {n} {n} {n} {n} {n} {n} {n}{.",
-        0,
-        &[
-            v[4],
-            v[5],
-            v[6],
-            v[7],
-            v[8],
-            v[9],
-            v[10],
-            v[11],
-            v[12],
-            v[13],
-            v[14],
-            v[15],
-            v[16],
-            v[17],
-            v[18],
-        ],
-        out,
-        next,
-    )
-}
-
-fn message(m: Message, out: &mut [u8], at: usize) -> usize {
-    let step = Step {
-        state: stream::fresh(),
-        answer: Answer::Message(m),
-    };
-    answered(flat::flatten(step), out, at)
-}
-
-fn flag(b: bool) -> u64 {
-    if b { 1 } else { 0 }
-}
-
-fn state(s: Stream, out: &mut [u8], at: usize) -> usize {
-    let v = [
-        s.start as u64,
-        s.end as u64,
-        s.bytes_read,
-        s.read_calls,
-        s.messages,
-        flag(s.error),
-    ];
-    layouts::put(b" state {n} {n} {n} {n} {n} {n}{.", 0, &v, out, at)
-}
-
-// The answer and the state.
-fn stepped(step: Step, out: &mut [u8], at: usize) -> usize {
-    let s = step.state;
-    let next = answered(flat::flatten(step), out, at);
-    state(s, out, next)
-}
-
 // ---- the calls
-
-fn window(a: &[u8], out: &mut [u8], at: usize) -> usize {
-    let w = reader::parse_message(a);
-    match w {
-        Window::Message(m, used) => {
-            let next = message(m, out, at);
-            layouts::put(b" used {n}{.", 0, &[used as u64], out, next)
-        }
-        Window::Incomplete => word(b" incomplete{.", out, at),
-        Window::Refused(number, place) => layouts::put(
-            b" refused {n} {n}{.",
-            0,
-            &[number as u64, place as u64],
-            out,
-            at,
-        ),
-    }
-}
 
 // The first 52 bytes.
 fn held_of(b: &[u8]) -> [u8; 52] {
@@ -267,67 +146,16 @@ fn held_of(b: &[u8]) -> [u8; 52] {
     held
 }
 
-fn verdict(what: Verdict, out: &mut [u8], at: usize) -> usize {
-    match what {
-        Verdict::Accepted(m) => message(m, out, at),
-        Verdict::Bad(number, place) => layouts::put(
-            b" bad {n} {n}{.",
-            0,
-            &[number as u64, place as u64],
-            out,
-            at,
-        ),
-    }
-}
-
-fn walked(answer: walk::Answer, out: &mut [u8], at: usize) -> usize {
-    match answer {
-        walk::Answer::Frame { offset, size, what } => {
-            let next = layouts::put(b" frame {n} {n}{.", 0, &[offset, size as u64], out, at);
-            verdict(what, out, next)
-        }
-        walk::Answer::WantsMore => word(b" more{.", out, at),
-        walk::Answer::Refused(number) => layouts::put(
-            b" refused {n}{.",
-            0,
-            &[number as u64],
-            out,
-            at,
-        ),
-    }
-}
-
-fn step(v: [u64; 17], a: &[u8], b: &[u8], out: &mut [u8], at: usize) -> usize {
+fn step(v: [u64; 17], a: &[u8], b: &[u8]) -> Stepped {
     let held = held_of(b);
-    let r = walk::step(
-        Walk {
-            offset: v[1],
-            seen: v[2] as usize,
-            held,
-            frames: v[3],
-            accepted: v[4],
-        },
-        a,
-    );
-    let answer = r.answer;
-    let s = r.state;
-    let then = s.held;
-    let next = walked(answer, out, at);
-    let numbers = [
-        r.used as u64,
-        s.offset,
-        s.seen as u64,
-        s.frames,
-        s.accepted,
-        sum(&then),
-    ];
-    layouts::put(
-        b" used {n} state {n} {n} {n} {n} {n}{.",
-        0,
-        &numbers,
-        out,
-        next,
-    )
+    let w = Walk {
+        offset: v[1],
+        seen: v[2] as usize,
+        held,
+        frames: v[3],
+        accepted: v[4],
+    };
+    walk::step(w, a)
 }
 
 fn state_of(v: [u64; 17]) -> Stream {
@@ -383,34 +211,18 @@ fn played(lent: bool, s: Stream, a: &mut [u8], b: &[u8], at: usize, width: usize
     }
 }
 
-fn play_line(lent: bool, v: [u64; 17], a: &mut [u8], b: &[u8], out: &mut [u8], at: usize) -> usize {
-    let p = played(lent, state_of(v), a, b, v[7] as usize, v[8] as usize);
-    let s = p.state;
-    let answer = p.answer;
-    let next = answered(flat::flatten(Step { state: s, answer }), out, at);
-    let then = layouts::put(b" at {n}{.", 0, &[p.at as u64], out, next);
-    state(s, out, then)
-}
-
 // ---- the writer
-
-fn wrote(w: Written, out: &mut [u8], at: usize) -> usize {
-    match w {
-        Written::Done(n) => layouts::put(b" done {n}{.", 0, &[n as u64], out, at),
-        Written::Refused(number) => layouts::put(b" refused {n}{.", 0, &[number as u64], out, at),
-    }
-}
 
 fn write(v: [u64; 17], a: &mut [u8], b: &[u8], out: &mut [u8], at: usize) -> usize {
     let w = reader::parse_message(b);
     let Window::Message(m, _) = w else {
-        return word(b" no record{.", out, at);
+        return answers::word(b" no record{.", out, at);
     };
     let m1 = changes::changed(m, v[1], v[2]);
     let m2 = changes::changed(m1, v[3], v[4]);
     let m3 = changes::changed(m2, v[5], v[6]);
     let m4 = changes::changed(m3, v[7], v[8]);
-    wrote(writer::write(m4, a), out, at)
+    answers::wrote(writer::write(m4, a), out, at)
 }
 
 // ---- the program
@@ -444,23 +256,23 @@ fn stream_call(
     let which = v[0];
     let s = state_of(v);
     if which == NEXT {
-        let at = word(b"next{.", out, from);
-        return stepped(next(lent, s, a), out, at);
+        let at = answers::word(b"next{.", out, from);
+        return answers::stepped(next(lent, s, a), out, at);
     }
     if which == MAKE_ROOM {
-        let at = word(b"make_room{.", out, from);
-        return stepped(make_room(lent, s, a), out, at);
+        let at = answers::word(b"make_room{.", out, from);
+        return answers::stepped(make_room(lent, s, a), out, at);
     }
     if which == TOLD {
-        let at = word(b"told{.", out, from);
-        return stepped(told(lent, s, v[7] as usize), out, at);
+        let at = answers::word(b"told{.", out, from);
+        return answers::stepped(told(lent, s, v[7] as usize), out, at);
     }
     if which == TOLD_FAILED {
-        let at = word(b"told_failed{.", out, from);
-        return stepped(told_failed(lent, s), out, at);
+        let at = answers::word(b"told_failed{.", out, from);
+        return answers::stepped(told_failed(lent, s), out, at);
     }
-    let at = word(b"play{.", out, from);
-    play_line(lent, v, a, b, out, at)
+    let at = answers::word(b"play{.", out, from);
+    answers::played(played(lent, s, a, b, v[7] as usize, v[8] as usize), out, at)
 }
 
 // Whether the call is one of the stream's, which are played over a lent state too.
@@ -472,22 +284,22 @@ fn of_stream(which: u64) -> bool {
 fn call(lent: bool, v: [u64; 17], a: &mut [u8], b: &[u8], out: &mut [u8]) -> usize {
     let which = v[0];
     if which == WINDOW {
-        let at = word(b"window{.", out, 0);
-        return window(a, out, at);
+        let at = answers::word(b"window{.", out, 0);
+        return answers::window(reader::parse_message(a), out, at);
     }
     if which == STEP {
-        let at = word(b"step{.", out, 0);
-        return step(v, a, b, out, at);
+        let at = answers::word(b"step{.", out, 0);
+        return answers::walked(step(v, a, b), out, at);
     }
     if which == WRITE {
-        let at = word(b"write{.", out, 0);
+        let at = answers::word(b"write{.", out, 0);
         return write(v, a, b, out, at);
     }
     if !of_stream(which) {
         return 0;
     }
     if lent {
-        let from = word(b"lent {.", out, 0);
+        let from = answers::word(b"lent {.", out, 0);
         return stream_call(true, v, a, b, out, from);
     }
     stream_call(false, v, a, b, out, 0)
@@ -507,7 +319,7 @@ fn line(lent: bool, v: [u64; 17], a: &mut [u8], b: &[u8]) -> bool {
     if at == 0 {
         return false;
     }
-    let end = layouts::put(b" sum {n}\n{.", 0, &[sum(a)], &mut out, at);
+    let end = layouts::put(b" sum {n}\n{.", 0, &[answers::sum(a)], &mut out, at);
     if end > 4096 {
         return false;
     }

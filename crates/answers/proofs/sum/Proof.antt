@@ -1,10 +1,10 @@
--- `calls::sum` meets its contract.
+-- `answers::sum` meets its contract.
 -- Assumes nothing.
 use Prim.Native.Nat.{_-_, _≤_, _<_}
 use lib.ListN.{length}
 use borrow.Author.Needs.{needs}
-use Rattle.calls.proofs.sum.Statement.{statement}
-use Rattle.calls.proofs.sum.Tie as tie
+use Rattle.answers.proofs.sum.Statement.{statement}
+use Rattle.answers.proofs.sum.Tie as tie
 
 abbrev Inv-loop : tie.InvT-loop
 Inv-loop b once₀ all₀ i₀ once all i = (once < 4294967296) × (all < 4294967296) × (i ≤ length b)
