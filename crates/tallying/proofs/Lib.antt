@@ -1,3 +1,5 @@
 pub mod Counting
 mod Skimming
 pub mod Turns
+pub mod Going
+pub mod Promises

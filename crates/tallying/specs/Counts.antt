@@ -2,15 +2,13 @@
 -- Assumes nothing.
 use Prim.Native.Nat.{ℕ, _+_}
 use mathlib.Core.Path.{_≡_}
-use mathlib.Core.Bool.{true}
 use mathlib.Core.List.{List, [], _∷_}
 use lib.ListN.{length, getD, set}
 use Rattle.records.specs.declared.Message.{Message as Record}
 use Rattle.stream.specs.declared.Stream.{Stream}
 use Rattle.stream.specs.declared.Step.{Step}
-use Rattle.stream.specs.declared.Answer.the-variants.{Message, Ready}
+use Rattle.stream.specs.declared.Answer.the-variants.{Message}
 use Rattle.stream.specs.Next.{nextOf}
-use Rattle.stream_laws.specs.Ends.{stops}
 
 unfoldable pub sum : List ℕ → ℕ
 sum [] = 0
@@ -42,9 +40,3 @@ pub record Drained (b : List ℕ) (s : Stream) (c : List ℕ) (r : Step) (d : Li
   pub step : r ≡ nextOf last b
   pub stops : (m : Record) → r .answer ≡ Message m → ⊥
   pub counted : Counters d (r .state .messages)
-
--- a read: the messages stay; where bytes came one more call is counted, and any other answer ends the run
-pub record ReadSome (s : Stream) (r : Step) : Type 0 where
-  pub messages : r .state .messages ≡ s .messages
-  pub calls : r .answer ≡ Ready → r .state .«read_calls» ≡ s .«read_calls» + 1
-  pub ends : (r .answer ≡ Ready → ⊥) → stops (r .answer) ≡ true

@@ -1,15 +1,18 @@
 // The run of the stream over standard input, to its first refusal or its end, with a counter for each tag value. It stands in a library, so that
 // `tally` and the three programs that only test it on other inputs are the same code.
 ghost use mathlib.Core.Path.{_≡_};
-ghost use mathlib.Core.Bool.{true};
 ghost use Prim.Native.Nat.{_+_, _≤_};
 ghost use lib.ListN.{length};
 ghost use Rattle.text.specs.Decimal.{Wrote};
 ghost use Rattle.tally_lines.specs.Lines.{tallyOf};
 ghost use Rattle.plain.specs.Plain.{Table};
-ghost use Rattle.stream.specs.declared.Answer.the-variants.{Ready};
-ghost use Rattle.stream_laws.specs.Ends.{stops};
-ghost use Rattle.tallying.specs.Counts.{Counters, Skimmed, Drained, ReadSome};
+ghost use Rattle.tallying.specs.Counts.{Counters, Skimmed, Drained};
+ghost use Rattle.tallying.specs.Reads.{tellOf, ReadSome, Tallied, Finished};
+
+mod printed;
+
+pub use printed::Tally;
+use standard::Brought;
 use stream::Answer;
 use stream::Step;
 use stream::Stream;
@@ -74,51 +77,76 @@ fn drain(s0: Stream, b: &[u8], rows: &[u64; 256], count: &mut [u64]) -> Step
     }
 }
 
-// Room is made, the free part of the buffer is handed on for the read, and the state is told what came of it.
-fn read_some(s: Stream, buf: &mut [u8]) -> Step
-    ensures { λ r. ⌜ ReadSome s r ⌝ }
+// What the state is told of a read.
+fn tell(s: Stream, b: Brought) -> Step
+    ensures { λ r. ⌜ r ≡ tellOf s b ⌝ }
 {
-    let step = stream::make_room_of(s, buf);
-    let state = step.state;
-    let answer = step.answer;
+    if standard::failed(b) {
+        return stream::told_failed_of(s);
+    }
+    stream::told_of(s, standard::bytes(b))
+}
+
+// A turn: the state and the answer behind it, and what its read brought.
+struct Turn {
+    step: Step,
+    brought: Brought,
+}
+
+// Room is made, the free part of the buffer is handed on for the read, and the state is told what came of it.
+fn read_some(s: Stream, b: Brought, buf: &mut [u8]) -> Turn
+    ensures { λ r. ⌜ ReadSome s b (now (buf .entry)) r (now (buf .exit)) ⌝ }
+{
+    let room = stream::make_room_of(s, buf);
+    let state = room.state;
+    let answer = room.answer;
     let Answer::Ready = answer else {
-        return Step { state, answer };
+        return Turn {
+            step: Step { state, answer },
+            brought: b,
+        };
     };
     let end = state.end;
-    let free = &mut buf[end..];
-    let got = libc::read(0, free);
-    if got < 0 {
-        return stream::told_failed_of(state);
-    }
-    let n = io::count(got, free);
-    stream::told_of(state, n)
+    let brought = standard::read(b, &mut buf[end..]);
+    let step = tell(state, brought);
+    Turn { step, brought }
 }
 
 // Drains the window and reads, to the first answer that stops.
-fn run(count: &mut [u64]) -> Step
+fn run(count: &mut [u64]) -> Turn
     requires { ⌜ Counters (now count) 0 ⌝ }
-    ensures { λ r. ⌜ Counters (now (count .exit)) (r .state .messages) × (stops (r .answer) ≡ true) ⌝ }
+    ensures { λ r. ⌜ Tallied (now (count .entry)) r (now (count .exit)) ⌝ }
 {
     let mut buf = [0u8; 8192];
     let rows = plain::rows();
     let mut s = stream::fresh();
+    let mut b = standard::unread();
     loop {
         let step = drain(s, &buf, &rows, count);
         let state = step.state;
         let answer = step.answer;
         let Answer::Wants = answer else {
-            return Step { state, answer };
+            return Turn {
+                step: Step { state, answer },
+                brought: b,
+            };
         };
-        let turn = read_some(state, &mut buf);
-        let fed = turn.state;
-        let heard = turn.answer;
+        let turn = read_some(state, b, &mut buf);
+        let told = turn.step;
+        let brought = turn.brought;
+        let fed = told.state;
+        let heard = told.answer;
         let Answer::Ready = heard else {
-            return Step {
-                state: fed,
-                answer: heard,
+            return Turn {
+                step: Step {
+                    state: fed,
+                    answer: heard,
+                },
+                brought,
             };
         };
         s = fed;
+        b = brought;
     }
 }
 
@@ -130,15 +158,20 @@ fn put_tally(count: &[u64], messages: u64, answer: Answer, out: &mut [u8]) -> us
     tally_lines::tally(count, messages, answer, out)
 }
 
-// Runs the stream, and prints the counts.
-pub fn print_tally() {
+// Runs the stream, and prints the counts. The answer tells of the run's last turn, and of the write.
+pub fn print_tally() -> Tally
+    ensures { λ r. ⌜ Finished r ⌝ }
+{
     let mut count = [0u64; 256];
     let mut out = [0u8; 8192];
     let last = run(&mut count);
-    let state = last.state;
-    let answer = last.answer;
+    let step = last.step;
+    let state = step.state;
+    let answer = step.answer;
     let n = put_tally(&count, state.messages, answer, &mut out);
-    if !io::write_all(1, &out[..n]) {
+    let tally = printed::write(&count, last, &out[..n]);
+    if !printed::taken(tally) {
         io::write_all(2, b"tally: standard output cannot be written\n");
     }
+    tally
 }

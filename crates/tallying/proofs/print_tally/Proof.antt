@@ -1,10 +1,18 @@
 -- `tallying::print_tally` meets its contract.
 -- Assumes nothing.
-use mathlib.Core.Path.{refl, sym}
+use Prim.Native.Nat.{ℕ}
+use mathlib.Core.Path.{_≡_, refl, sym}
+use mathlib.Core.List.{List}
 use native.Mathlib.Omega.{arith}
+use lib.ListN.{length, replicate, take}
 use lib.Seq.{length-take-le}
-use Rattle.text.proofs.Laws.{wrote-long}
+use Rattle.text.specs.Decimal.{Wrote}
+use Rattle.text.proofs.Laws.{wrote-long, wrote-front}
+use Rattle.tally_lines.specs.Lines.{tallyOf}
+use Rattle.tallying.specs.declared.Turn.{Turn}
+use Rattle.tallying.specs.declared.printed.Tally.{Tally}
 use Rattle.tallying.specs.Counts.{sum}
+use Rattle.tallying.specs.Reads.{Tallied, Printed, Finished}
 use borrow.Author.Needs.{needs}
 use Rattle.tallying.proofs.print_tally.Statement.{statement}
 use Rattle.tallying.proofs.print_tally.Tie as tie
@@ -25,28 +33,49 @@ slice-aggregate-put-tally-2 c = search needs
 put-tally-requires : tie.Need-put-tally-requires
 put-tally-requires c κs = search needs
 
+slice-aggregate-write : tie.Need-slice-aggregate-write
+slice-aggregate-write c = search needs
+
 array-share-prefix-out : tie.Need-array-share-prefix-out
-array-share-prefix-out c = omega (arith, c .before .put-tally .ensures .inside)
+array-share-prefix-out c = search needs
+
+slice-aggregate-write-2 : tie.Need-slice-aggregate-write-2
+slice-aggregate-write-2 c =
+    let put = c .before .before .before .put-tally .ensures in
+    sym (length-take-le _ _ (omega (arith, put .inside, wrote-long put)))
+
+-- the counters start at zero
+printed : {count : List ℕ} {last : Turn} {out after : List ℕ} {n : ℕ} → Tallied (replicate 256 0) last count
+    → Wrote (tallyOf count (last .step .state .messages) (last .step .answer)) out 0 after n → Printed count last (take n after)
+unfolding sum
+printed t w = record { start = _; none = record { all = refl; total = refl }; tallied = t; lines = wrote-front w }
+
+write-requires : tie.Need-write-requires
+write-requires c κs = printed (c .before .before .before .before .before .before .before .before .before .run .ensures) (c .before .before .before .put-tally .ensures)
+
+taken-requires : tie.Need-taken-requires
+taken-requires c κs = search needs
 
 slice-aggregate-write-all : tie.Need-slice-aggregate-write-all
-slice-aggregate-write-all c =
-    let put = c .before .before .put-tally .ensures in
-    sym (length-take-le _ _ (omega (arith, put .inside, wrote-long put)))
+slice-aggregate-write-all c = search needs
 
 write-all-requires : tie.Need-write-all-requires
 write-all-requires c κs = search needs
 
-slice-aggregate-write-all-2 : tie.Need-slice-aggregate-write-all-2
-slice-aggregate-write-all-2 c = search needs
+-- the lines that were written are the answer's
+told : {count : List ℕ} {last : Turn} {text : List ℕ} (t : Tally) → t .last ≡ last → t .written .bytes ≡ length text → Printed count last text → Finished t
+told {count} {last} {text} t e n p = record { count = count; text = text; printed = rw e p; bytes = n }
 
-write-all-requires-2 : tie.Need-write-all-requires-2
-write-all-requires-2 c κs = search needs
+finished : (m : tie.After-write) → Finished (m .write .result)
+finished m =
+    told (m .write .result) (m .write .ensures .0) (m .write .ensures .1)
+    (printed (m .before .before .before .before .before .before .before .before .before .before .run .ensures) (m .before .before .before .before .put-tally .ensures))
 
 returns : tie.Need-returns
-returns c = search needs
+returns c = finished (c .before .before .before .before)
 
 returns-2 : tie.Need-returns-2
-returns-2 c = search needs
+returns-2 c = finished (c .before .before)
 
 pub print-tally-spec : {M : Type 1} → statement M
 print-tally-spec =
@@ -57,10 +86,12 @@ print-tally-spec =
     slice-aggregate-put-tally
     slice-aggregate-put-tally-2
     put-tally-requires
+    slice-aggregate-write
     array-share-prefix-out
+    slice-aggregate-write-2
+    write-requires
+    taken-requires
     slice-aggregate-write-all
     write-all-requires
-    slice-aggregate-write-all-2
-    write-all-requires-2
     returns
     returns-2)

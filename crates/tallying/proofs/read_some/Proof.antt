@@ -1,10 +1,11 @@
 -- `tallying::read_some` meets its contract.
 -- Assumes nothing.
-use Prim.Native.Nat.{_≤_}
+use Prim.Native.Nat.{_≤_, _-_}
+use mathlib.Core.Path.{refl}
 use native.Mathlib.Omega.{arith}
 use lib.ListN.{length}
 use Rattle.stream_laws.proofs.Calls.{not-ready}
-use Rattle.tallying.proofs.Turns.{roomy, no-room, read-fails, read-tells}
+use Rattle.tallying.proofs.Turns.{roomy, no-read, one-read}
 use borrow.Author.Needs.{needs}
 use Rattle.tallying.proofs.read_some.Statement.{statement}
 use Rattle.tallying.proofs.read_some.Tie as tie
@@ -28,50 +29,31 @@ same-length c = search needs
 returns : tie.Need-returns
 returns c =
     let m = c .before .before .before .before .make-room-of in
-    no-room (c .before .before .before .before .before .before .before .args .s) _ (m .result) (m .ensures .0) (not-ready (c .match .keys2))
+    no-read (c .before .before .before .before .before .before .before .args .s) _ _ (m .result) _ _ (m .ensures .0) (not-ready (c .match .keys2)) refl refl (m .kept .1 .0)
 
-sub-free : tie.Need-sub-free
-sub-free c = free c
+sub-read : tie.Need-sub-read
+sub-read c = free c
 
-part-free-start : tie.Need-part-free-start
-part-free-start c = free c
+part-read-start : tie.Need-part-read-start
+part-read-start c = free c
 
-part-free-end : tie.Need-part-free-end
-part-free-end c = search needs
+part-read-end : tie.Need-part-read-end
+part-read-end c = search needs
 
 read-requires : tie.Need-read-requires
 read-requires c κs = search needs
 
-told-failed-of-requires : tie.Need-told-failed-of-requires
-told-failed-of-requires c κs = search needs
+tell-requires : tie.Need-tell-requires
+tell-requires c κs = search needs
 
 same-length-2 : tie.Need-same-length-2
 same-length-2 c = search needs
 
 returns-2 : tie.Need-returns-2
 returns-2 c =
-    let m = c .before .before .before .before .before .before .before .before .before .before .before .before .before .before .make-room-of in
-    read-fails
-    (c .before .before .before .before .before .before .before .before .before .before .before .before .before .before .before .before .before .args .s)
-    _ (m .result) _ (m .ensures .0) (c .before .before .before .before .before .before .before .before .before .enum-told .given .1)
-    (c .told-failed-of .ensures)
-
-count-requires : tie.Need-count-requires
-count-requires c κs = search needs
-
-told-of-requires : tie.Need-told-of-requires
-told-of-requires c κs = search needs
-
-same-length-3 : tie.Need-same-length-3
-same-length-3 c = search needs
-
-returns-3 : tie.Need-returns-3
-returns-3 c =
-    let m = c .before .before .before .before .before .before .before .before .before .before .before .before .before .before .before .before .make-room-of in
-    read-tells
-    (c .before .before .before .before .before .before .before .before .before .before .before .before .before .before .before .before .before .before .before .args .s)
-    _ (m .result) _ _ (m .ensures .0) (c .before .before .before .before .before .before .before .before .before .before .before .enum-told .given .1)
-    (c .told-of .ensures)
+    let m = c .before .before .before .before .before .before .before .before .before .before .make-room-of in
+    one-read (c .before .before .before .before .before .before .before .before .before .before .before .before .before .args .s) _ _ (m .result) (m .last .1 .0) _ _ (m .ensures .0) (c .before .before .before .before .before .enum-told .given .1) (m .ensures .1) (free (c .before .before .before .before .before)) (same-length-2 c) (m .kept .1 .0)
+    (c .before .before .before .read .ensures) (c .tell .ensures)
 
 pub read-some-spec : {M : Type 1} → statement M
 read-some-spec =
@@ -81,14 +63,10 @@ read-some-spec =
     enum-told
     same-length
     returns
-    sub-free
-    part-free-start
-    part-free-end
+    sub-read
+    part-read-start
+    part-read-end
     read-requires
-    told-failed-of-requires
+    tell-requires
     same-length-2
-    returns-2
-    count-requires
-    told-of-requires
-    same-length-3
-    returns-3)
+    returns-2)

@@ -1,0 +1,78 @@
+-- The states of the calls are reached by steps, so that they are sane, and a call stops at a step that refuses 33 and at no other.
+-- Assumes nothing.
+use Prim.Native.Nat.{ℕ, zero, suc, _-_, _+_}
+use mathlib.Core.Path.{_≡_, refl, sym, ap, _∙_}
+use mathlib.Core.Bool.{Bool, true, false, cond, false≢true}
+use mathlib.Core.List.{List}
+use native.Mathlib.Omega.{arith}
+use lib.Dec.{ltb}
+use lib.ListN.{length, drop}
+use Rattle.reader.specs.declared.Window.{Window}
+use Rattle.reader.specs.Window.{windowOf}
+use Rattle.walk.specs.declared.Walk.{Walk}
+use Rattle.walk.specs.declared.Stepped.{Stepped}
+use Rattle.walk.specs.declared.Answer.{Answer}
+use Rattle.walk.specs.declared.Answer.the-variants.{Frame, WantsMore, Refused}
+use Rattle.walk.specs.Walk.{frameSize, put, soundOf, roomOf, judgeOf, moreOf, doneOf, movedBy, movedOf, stepOf}
+use Rattle.walk.proofs.Cases.{step-30, step-33, step-moves}
+use Rattle.demand.specs.Promises.{Reached, start, next}
+use Rattle.demand.proofs.Demand3.{walk-never-30}
+use Rattle.lines.specs.declared.Why.the-variants.{Used, Full, Stopped}
+use Rattle.lines.specs.Lines.{lineOf}
+use Rattle.lines.specs.Blocks.{refusesOf, stopsOf, Block, Sane, blockOf}
+use Rattle.lines.proofs.Moves.{step-moved}
+use Rattle.lines.proofs.Turns.{turn, after, block-used, block-full, block-step}
+
+pub reached-sane : {w : Walk} → Reached windowOf w → Sane w
+reached-sane start = record { bytes = omega arith; counted = omega arith }
+reached-sane (next {w = w} p r) = step-moved windowOf w p .sane (reached-sane r)
+
+-- a call's end: its state is reached, and where it stopped the step from there on refuses
+pub record Reaches (b : List ℕ) (r : Block) : Type 0 where
+  pub reached : Reached windowOf (r .state)
+  pub refuses : stopsOf (r .why) ≡ true → refusesOf (stepOf windowOf (r .state) (drop (r .from) b) .answer) ≡ true
+
+reaches-after : (k room : ℕ) (w : Walk) (b : List ℕ) (i : ℕ) → Reached windowOf w
+    → ((rm : ℕ) → Reaches b (blockOf windowOf k rm (stepOf windowOf w (drop i b) .state) b (i + stepOf windowOf w (drop i b) .used)))
+    → (a : Answer) → stepOf windowOf w (drop i b) .answer ≡ a → Reaches b (after windowOf a k room (stepOf windowOf w (drop i b)) w b i)
+reaches-after k room w b i R IH (Frame at size what) e =
+    let r = IH (room - length (lineOf (record { at = at; size = size; what = what }))) in
+    record { reached = r .reached; refuses = r .refuses }
+reaches-after k room w b i R IH WantsMore e = IH room
+reaches-after k room w b i R IH (Refused n) e = record { reached = R; refuses = λ _. rw e }
+
+pub reaches : (k room : ℕ) (w : Walk) (b : List ℕ) (i : ℕ) → Reached windowOf w → Reaches b (blockOf windowOf k room w b i)
+unfolding blockOf
+reaches zero room w b i R = record { reached = R; refuses = λ e. absurd (false≢true e) }
+reaches (suc k) room w b i R =
+    turn b i room
+    (λ le. rw (block-used windowOf (suc k) room w b i le) (record { reached = R; refuses = λ e. absurd (false≢true e) }))
+    (λ lt r. rw (block-full windowOf k room w b i lt r) (record { reached = R; refuses = λ e. absurd (false≢true e) }))
+    (λ lt r.
+    let st = stepOf windowOf w (drop i b) in
+    rw (block-step windowOf k room w b i st lt r refl)
+    (reaches-after k room w b i R (λ rm. reaches k rm (st .state) b (i + st .used) (next (drop i b) R)) (st .answer) refl))
+
+-- a step that moves does not refuse
+moves : (w : Walk) (p : List ℕ) → refusesOf (movedOf windowOf w p .answer) ≡ false
+unfolding movedOf movedBy doneOf
+moves w p = go (ltb (w .seen + length p) (frameSize (put (w .held) (w .seen) p)))
+  where
+    h : List ℕ
+    h = put (w .held) (w .seen) p
+
+    go : (x : Bool) → refusesOf (cond x (moreOf w (put (w .held) (w .seen) p) (length p)) (doneOf w (frameSize (put (w .held) (w .seen) p) - w .seen) (frameSize (put (w .held) (w .seen) p)) (judgeOf windowOf (put (w .held) (w .seen) p) (frameSize (put (w .held) (w .seen) p)))) .answer) ≡ false
+    go true = refl
+    go false = refl
+
+-- in a reached state a refusal is 33
+pub refused-33 : (w : Walk) (p : List ℕ) → Reached windowOf w → refusesOf (stepOf windowOf w p .answer) ≡ true → stepOf windowOf w p .answer ≡ Refused 33
+refused-33 w p R e = sound (soundOf w) refl
+  where
+    room : (x : Bool) → soundOf w ≡ true → roomOf (w .offset) (w .seen) (length p) ≡ x → stepOf windowOf w p .answer ≡ Refused 33
+    room false s r = ap (λ (y : Stepped). y .answer) (sym (step-33 windowOf w p s r))
+    room true s r = absurd (false≢true (sym (moves w p) ∙ ap (λ (y : Stepped). refusesOf (y .answer)) (sym (step-moves windowOf w p s r)) ∙ e))
+
+    sound : (x : Bool) → soundOf w ≡ x → stepOf windowOf w p .answer ≡ Refused 33
+    sound false s = absurd (walk-never-30 w p R (ap (λ (y : Stepped). y .answer) (sym (step-30 windowOf w p s))))
+    sound true s = room (roomOf (w .offset) (w .seen) (length p)) s refl

@@ -1,0 +1,65 @@
+-- What the functions of the program owe, up to what is read and written.
+-- Assumes nothing.
+use Prim.Native.Nat.{ℕ, _+_}
+use mathlib.Core.Path.{_≡_}
+use mathlib.Core.Bool.{Bool, true, false}
+use mathlib.Core.List.{List, [], _∷_}
+use mathlib.Core.Logic.{_⊎_}
+use lib.ListN.{length, take, drop}
+use Rattle.standard.specs.declared.Brought.{Brought}
+use Rattle.standard.specs.Reads.{Reads}
+use Rattle.reader.specs.Window.{windowOf}
+use Rattle.walk.specs.declared.Walk.{Walk}
+use Rattle.walk.specs.declared.Answer.the-variants.{Refused}
+use Rattle.walk.specs.Walk.{freshOf, stepOf}
+use Rattle.demand.specs.Promises.{Reached}
+use Rattle.lines.specs.declared.Blocked.{Blocked}
+use Rattle.lines.specs.Lines.{closingOf}
+use Rattle.lines.specs.Blocks.{Called}
+use Rattle.output.specs.Calls.{Since, Over}
+use Rattle.framing.specs.declared.sent.Sent.{Sent}
+use Rattle.framing.specs.declared.Turn.{Turn}
+use Rattle.framing.specs.Texts.{AllWalked}
+
+-- A block b that was not walked to its end from w on: calls led to a state and a place in it, and of the call from there, which is the last, the write
+-- was not taken, or the step behind it refuses 33.
+pub record Short (b : List ℕ) (w : Walk) (s : Sent) : Type 0 where
+  pub place : ℕ
+  pub state : Walk
+  pub since : Since windowOf w b 0 state place
+  pub out : List ℕ
+  pub after : List ℕ
+  pub answer : Blocked
+  pub called : Called windowOf state b place out 0 after answer
+  pub sent : s .state ≡ answer .state
+  pub why : (s .written .taken ≡ false) ⊎ (stepOf windowOf (s .state) (drop (answer .from) b) .answer ≡ Refused 33)
+
+-- a block b walked from w on, and what was sent: where `whole`, calls over it and the writes of their texts lie between, and all were taken
+pub record Behind (b : List ℕ) (w : Walk) (s : Sent) (whole : Bool) : Type 0 where
+  pub reached : Reached windowOf (s .state)
+  pub good : whole ≡ true → s .written .taken ≡ true
+  pub calls : whole ≡ true → Over windowOf (b ∷ []) w (s .state)
+  pub bytes : whole ≡ true → s .state .offset + s .state .seen ≡ w .offset + w .seen + length b
+  pub short : whole ≡ false → Short b w s
+
+-- a turn: where its read brought nothing, that is all; where it brought bytes these are the block, and there may be more if it was walked whole
+pub record ReadSome (s : Sent) (v : Brought) (t : Turn) (buf : List ℕ) : Type 0 where
+  pub reads : Reads v (length buf) (t .brought)
+  pub none : t .brought .bytes ≡ 0 → (t .sent ≡ s) × (t .whole ≡ true) × (t .more ≡ false)
+  pub some : (t .brought .bytes ≡ 0 → ⊥) → Behind (take (t .brought .bytes) buf) (s .state) (t .sent) (t .whole) × (t .more ≡ t .whole)
+
+-- At the end of all reads: calls over the pieces that they brought, from the fresh state on. Where all is whole they lead to the state that was sent, and
+-- all that the reads brought is walked; where it is not, to a state from which a further piece was not walked to its end.
+pub record Ended (t : Turn) : Type 0 where
+  pub reached : Reached windowOf (t .sent .state)
+  pub pieces : List (List ℕ)
+  pub last : Walk
+  pub over : Over windowOf pieces freshOf last
+  pub all : t .whole ≡ true → (t .sent .state ≡ last) × (t .sent .written .taken ≡ true) × AllWalked (t .sent .state) (t .brought)
+  pub piece : List ℕ
+  pub short : t .whole ≡ false → Short piece last (t .sent)
+
+-- How the program ends: the closing lines of the state that was sent are handed to the last write, or a write was not taken.
+pub data Finished (s : Sent) : Type 0 where
+  whole : s .closed ≡ true → s .written .bytes ≡ length (closingOf (s .state .offset) (s .state .seen) (s .state .frames) (s .state .accepted)) → Finished s
+  failed : s .written .taken ≡ false → Finished s

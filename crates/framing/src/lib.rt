@@ -1,0 +1,131 @@
+// Walks standard input by its frames and prints a line for each, then the tail and the totals: the program `frames`. A failed read is taken as the end of
+// the input. A write that fails ends the run, with a word on standard error.
+ghost use Prim.Native.Nat.{_≤_, _<_};
+ghost use mathlib.Core.Path.{_≡_};
+ghost use mathlib.Core.Bool.{true};
+ghost use lib.ListN.{length};
+ghost use Rattle.reader.specs.Window.{windowOf};
+ghost use Rattle.demand.specs.Promises.{Reached};
+ghost use Rattle.framing.specs.Told.{Behind, ReadSome, Ended, Finished};
+
+mod closing;
+mod sent;
+
+pub use sent::Sent;
+use standard::Brought;
+
+// What was sent, up to a state; and whether all bytes were walked and all of their lines written.
+struct Put {
+    sent: Sent,
+    whole: bool,
+}
+
+// Walks a block, and writes the lines of the frames that end in it, a buffer at a time.
+fn put_block(s: Sent, block: &[u8], out: &mut [u8]) -> Put
+    requires { ⌜ Reached windowOf (s .state) × (s .written .taken ≡ true) × (137 ≤ length (now out)) ⌝ }
+    ensures { λ r. ⌜ Behind (now (block .entry)) (s .state) (r .sent) (r .whole) ⌝ }
+{
+    let mut sent = s;
+    let mut from = 0;
+    while from < block.len() {
+        let w = sent::state(sent);
+        let r = lines::walk_block(w, block, from, out, 0);
+        let at = r.at;
+        let then = r.from;
+        let why = r.why;
+        let next = sent::put(sent, block, from, r, &out[..at]);
+        if !sent::taken(next) {
+            return Put {
+                sent: next,
+                whole: false,
+            };
+        }
+        if lines::stops(why) {
+            return Put {
+                sent: next,
+                whole: false,
+            };
+        }
+        sent = next;
+        from = then;
+    }
+    Put { sent, whole: true }
+}
+
+// A turn: what was sent behind it, what its read brought, and whether there may be more.
+struct Turn {
+    sent: Sent,
+    brought: Brought,
+    whole: bool,
+    more: bool,
+}
+
+// One read, and the frames that end in it.
+fn read_some(s: Sent, b: Brought, buf: &mut [u8], out: &mut [u8]) -> Turn
+    requires { ⌜ Reached windowOf (s .state) × (s .written .taken ≡ true) × (137 ≤ length (now out)) ⌝ }
+    ensures { λ r. ⌜ ReadSome s b r (now (buf .exit)) ⌝ }
+{
+    let brought = standard::read(b, buf);
+    let n = standard::bytes(brought);
+    if n == 0 {
+        return Turn {
+            sent: s,
+            brought,
+            whole: true,
+            more: false,
+        };
+    }
+    let r = put_block(s, &buf[..n], out);
+    let sent = r.sent;
+    Turn {
+        sent,
+        brought,
+        whole: r.whole,
+        more: r.whole,
+    }
+}
+
+// Reads to the end.
+fn read_all(buf: &mut [u8], out: &mut [u8]) -> Turn
+    requires { ⌜ (0 < length (now buf)) × (137 ≤ length (now out)) ⌝ }
+    ensures { λ r. ⌜ Ended r ⌝ }
+{
+    let mut sent = sent::begun();
+    let mut b = standard::unread();
+    loop {
+        let t = read_some(sent, b, buf, out);
+        let next = t.sent;
+        let brought = t.brought;
+        if !t.more {
+            return t;
+        }
+        sent = next;
+        b = brought;
+    }
+}
+
+fn complain() {
+    io::write_all(2, b"frames: a write failed\n");
+}
+
+// Walks standard input to its end and prints. The answer tells of the last write.
+pub fn print_frames() -> Sent
+    ensures { λ r. ⌜ Finished r ⌝ }
+{
+    let mut buf = io::large_buffer();
+    let mut out = io::large_buffer();
+    let t = read_all(&mut buf, &mut out);
+    let sent = t.sent;
+    let brought = t.brought;
+    if !sent::taken(sent) {
+        complain();
+        return sent;
+    }
+    let state = sent::state(sent);
+    let n = closing::closing(state, &mut out);
+    let last = sent::close(sent, brought, &out[..n]);
+    if !sent::taken(last) {
+        complain();
+    }
+    last
+}

@@ -1,0 +1,80 @@
+-- What the reads of standard input have to do with the counters: each read is told to the stream as what it brought; and the messages counted, and the
+-- answer that ends the run, are what the bytes brought by all reads hold.
+-- Assumes nothing.
+use Prim.Native.Nat.{ℕ, _-_, _≤_, min}
+use mathlib.Core.Path.{_≡_}
+use mathlib.Core.Bool.{true, false, cond}
+use mathlib.Core.List.{List, [], _∷_}
+use lib.ListN.{length, take}
+use Rattle.standard.specs.declared.Brought.{Brought}
+use Rattle.standard.specs.Reads.{Reads, Silent}
+use Rattle.records.specs.declared.Message.{Message as Record}
+use Rattle.stream.specs.declared.Stream.{Stream}
+use Rattle.stream.specs.declared.Step.{Step}
+use Rattle.stream.specs.declared.Answer.{Answer}
+use Rattle.stream.specs.declared.Answer.the-variants.{Ready, Refused}
+use Rattle.stream.specs.Room.{roomOf, roomBuffer}
+use Rattle.stream.specs.Told.{toldOf, failedOf}
+use Rattle.heard.specs.Heard.{Heard, before, cutOf, heardOf}
+use Rattle.heard.specs.Runs.{Fits}
+use Rattle.tally_lines.specs.Lines.{tallyOf}
+use Rattle.tallying.specs.declared.Turn.{Turn}
+use Rattle.tallying.specs.declared.printed.Tally.{Tally}
+use Rattle.tallying.specs.Counts.{Counters, raised}
+
+-- what the state is told of a read
+abbrev pub tellOf : Stream → Brought → Step
+tellOf s b = cond (b .failed) (failedOf s) (toldOf s (b .bytes))
+
+-- a read into the free part of the buffer that room was made in: what stands before the free part stays, and the state is told what the read brought
+pub record Came (s : Stream) (v : Brought) (b : List ℕ) (r : Turn) (c : List ℕ) : Type 0 where
+  pub reads : Reads v (length b - roomOf s (length b) .state .end) (r .brought)
+  pub front : take (roomOf s (length b) .state .end) c ≡ take (roomOf s (length b) .state .end) (roomBuffer s b)
+  pub step : r .step ≡ tellOf (roomOf s (length b) .state) (r .brought)
+
+-- a turn from state s, reads v and buffer b, to r and buffer c: where no room is made that is its answer, and there is no read
+pub record ReadSome (s : Stream) (v : Brought) (b : List ℕ) (r : Turn) (c : List ℕ) : Type 0 where
+  pub long : length c ≡ length b
+  pub no-room : (roomOf s (length b) .answer ≡ Ready → ⊥) → (r .step ≡ roomOf s (length b)) × (r .brought ≡ v)
+  pub came : roomOf s (length b) .answer ≡ Ready → Came s v b r c
+
+-- the counters behind messages
+abbrev pub countsOf : List ℕ → List Record → List ℕ
+countsOf c [] = c
+countsOf c (m ∷ ms) = countsOf (raised c m) ms
+
+-- How a run ends, by the bytes that all its reads brought, one behind the other, by its messages, by its answer and by what its last read brought.
+pub data Ends (came : List ℕ) (ms : List Record) : Answer → Brought → Type 0 where
+  -- with a refusal of a message
+  judged : {n p : ℕ} {b : Brought} → 1 ≤ n → n ≤ 3 → heardOf came ≡ record { messages = ms; stop = Refused n p } → Ends came ms (Refused n p) b
+  -- with the input's end, that is a read that brought nothing
+  ended : {a : Answer} {b : Brought} → Silent b → b .failed ≡ false → heardOf came ≡ record { messages = ms; stop = a }
+      → Ends came ms a b
+  -- with a failed read: behind the messages of what had come
+  failed : {b : Brought} (w : List ℕ) → Silent b → b .failed ≡ true → heardOf came ≡ record { messages = ms; stop = cutOf w }
+      → Ends came ms (Refused 11 0) b
+  -- with 33: the bytes, the messages or the read calls can no more be counted
+  full : {b : Brought} (h : Heard) → (Fits came → ⊥) → heardOf came ≡ before ms h → Ends came ms (Refused 33 0) b
+
+-- a run from counters c to its last turn r and counters d; as many bytes came as its reads brought
+pub record Tallied (c : List ℕ) (r : Turn) (d : List ℕ) : Type 0 where
+  pub came : List ℕ
+  pub messages : List Record
+  pub total : r .brought .total ≡ min (length came) 18446744073709551615
+  pub ends : Ends came messages (r .step .answer) (r .brought)
+  pub counts : d ≡ countsOf c messages
+  pub counted : Counters d (r .step .state .messages)
+
+-- what may be printed: the lines of the counters that a run left, from none on, with its messages and its answer
+pub record Printed (count : List ℕ) (last : Turn) (text : List ℕ) : Type 0 where
+  pub start : List ℕ
+  pub none : Counters start 0
+  pub tallied : Tallied start last count
+  pub lines : text ≡ tallyOf count (last .step .state .messages) (last .step .answer)
+
+-- the program's end: such a text is handed to the write
+pub record Finished (t : Tally) : Type 0 where
+  pub count : List ℕ
+  pub text : List ℕ
+  pub printed : Printed count (t .last) text
+  pub bytes : t .written .bytes ≡ length text

@@ -1,0 +1,30 @@
+// The write of the lines. It is told by a value that nothing else makes, since its fields are private.
+ghost use mathlib.Core.Path.{_≡_};
+ghost use lib.ListN.{length};
+ghost use Rattle.tallying.specs.Reads.{Printed};
+use super::Turn;
+use standard::Written;
+
+// The last turn of the run whose counters were printed, and the write of their lines.
+pub struct Tally {
+    last: Turn,
+    written: Written,
+}
+
+// Writes the lines of the counters that a run left.
+pub(super) fn write(count: &[u64], last: Turn, text: &[u8]) -> Tally
+    requires { ⌜ Printed (now count) last (now text) ⌝ }
+    ensures { λ r. ⌜ r .last ≡ last ⌝ }
+    ensures { λ r. ⌜ r .written .bytes ≡ length (now (text .entry)) ⌝ }
+{
+    let written = standard::write(text);
+    Tally { last, written }
+}
+
+// Whether the write was taken.
+pub(super) fn taken(t: Tally) -> bool
+    ensures { λ r. ⌜ r ≡ t .written .taken ⌝ }
+{
+    let w = t.written;
+    standard::taken(w)
+}
