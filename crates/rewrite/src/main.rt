@@ -2,9 +2,6 @@
 // were, how many were the same, and how many bytes of the window are left: of a message cut short, or of the first one that is refused, where it
 // stops. Bytes are taken one by one: each strict prefix of a message is incomplete, so the window is always one message. A write that fails ends
 // the program, with a word on standard error.
-use libc::STDERR_FILENO;
-use libc::STDIN_FILENO;
-use libc::STDOUT_FILENO;
 use reader::Window;
 use records::Message;
 use writer::Written;
@@ -50,12 +47,9 @@ fn rewritten(m: Message, window: [u8; 52], n: usize) -> bool {
 // A message's line; whether it could be written.
 fn line(tag: u8, same: bool) -> bool {
     if same {
-        io::write_all(STDOUT_FILENO, &[tag, b' ', b's', b'a', b'm', b'e', b'\n'])
+        standard::print(&[tag, b' ', b's', b'a', b'm', b'e', b'\n'])
     } else {
-        io::write_all(
-            STDOUT_FILENO,
-            &[tag, b' ', b'o', b't', b'h', b'e', b'r', b'\n'],
-        )
+        standard::print(&[tag, b' ', b'o', b't', b'h', b'e', b'r', b'\n'])
     }
 }
 
@@ -145,11 +139,11 @@ fn block(s: State, bytes: &[u8]) -> State {
 // One read.
 fn read_some(s: State) -> State {
     let mut buf = [0u8; 4096];
-    let got = libc::read(STDIN_FILENO, &mut buf);
-    if got <= 0 {
+    let b = standard::read(standard::unread(), &mut buf);
+    let n = standard::bytes(b);
+    if n == 0 {
         return halted(s);
     }
-    let n = io::count(got, &buf);
     block(s, &buf[..n])
 }
 
@@ -175,15 +169,22 @@ fn read_all() -> State {
     state
 }
 
+// A number in decimal; whether it could be written.
+fn number(n: u64) -> bool {
+    let mut text = [0u8; 20];
+    let k = io::decimal(n, &mut text);
+    standard::print(&text[..k])
+}
+
 // The last line; whether it could be written.
 fn totals(s: State) -> bool {
-    io::write_all(STDOUT_FILENO, b"messages ")
-        && io::print_decimal(STDOUT_FILENO, s.messages)
-        && io::write_all(STDOUT_FILENO, b" same ")
-        && io::print_decimal(STDOUT_FILENO, s.same)
-        && io::write_all(STDOUT_FILENO, b" left ")
-        && io::print_decimal(STDOUT_FILENO, s.have as u64)
-        && io::write_all(STDOUT_FILENO, b"\n")
+    standard::print(b"messages ")
+        && number(s.messages)
+        && standard::print(b" same ")
+        && number(s.same)
+        && standard::print(b" left ")
+        && number(s.have as u64)
+        && standard::print(b"\n")
 }
 
 fn main() {
@@ -191,5 +192,5 @@ fn main() {
     if s.written && totals(s) {
         return;
     }
-    io::write_all(STDERR_FILENO, b"rewrite: a write failed\n");
+    io::write_all(2, b"rewrite: a write failed\n");
 }

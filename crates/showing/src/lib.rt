@@ -66,7 +66,7 @@ fn line(f: Flat, table: &[u8], starts: &[usize], out: &mut [u8], at: usize) -> u
 fn flushed(out: &[u8], at: usize) -> bool
     requires { ⌜ at ≤ length (now out) ⌝ }
 {
-    io::write_all(1, &out[..at])
+    standard::print(&out[..at])
 }
 
 // Where the next line goes, and whether no write failed.
@@ -129,12 +129,11 @@ fn drain(s0: Stream, b: &[u8], table: &[u8], starts: &[usize], out: &mut [u8], a
 // A read: of standard input, where the stream is read raw, or of the list.
 fn fetched(raw: bool, list: &[u8], p: Place, free: &mut [u8]) -> Read {
     if raw {
-        let got = libc::read(0, free);
-        let count = io::count(got, free);
+        let b = standard::read(standard::unread(), free);
         return Read {
             place: p,
-            count,
-            failed: got < 0,
+            count: standard::bytes(b),
+            failed: standard::failed(b),
         };
     }
     reads::next_read(list, p, free)
@@ -454,10 +453,8 @@ fn more_held(held: &mut [u8], n: usize) -> usize
     requires { ⌜ n ≤ length (now held) ⌝ }
     ensures { λ r. ⌜ r ≤ length (now (held .entry)) ⌝ }
 {
-    let free = &mut held[n..];
-    let got = libc::read(0, free);
-    let came = io::count(got, free);
-    n + came
+    let b = standard::read(standard::unread(), &mut held[n..]);
+    n + standard::bytes(b)
 }
 
 // Reads on in the list and plays its whole cases. Where no bytes come, or there is no room for any, it has ended.

@@ -100,6 +100,12 @@ pub fn write(text: &[u8]) -> Written
     Written { bytes, taken }
 }
 
+// One write to standard output of a text that no definition says, and whether it took all bytes. No value tells of it, so no contract rests on it.
+pub fn print(text: &[u8]) -> bool {
+    let w = write(text);
+    taken(w)
+}
+
 // Whether the write took all of its bytes.
 pub fn taken(w: Written) -> bool
     ensures { λ r. ⌜ r ≡ w .taken ⌝ }
