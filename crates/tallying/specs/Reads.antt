@@ -72,9 +72,11 @@ pub record Printed (count : List ℕ) (last : Turn) (text : List ℕ) : Type 0 w
   pub tallied : Tallied start last count
   pub lines : text ≡ tallyOf count (last .step .state .messages) (last .step .answer)
 
--- the program's end: such a text is handed to the write
+-- the program's end: such a text, of a run whose last turn tells of these reads, is handed to the write
 pub record Finished (t : Tally) : Type 0 where
+  pub last : Turn
+  pub reads : t .brought ≡ last .brought
   pub count : List ℕ
   pub text : List ℕ
-  pub printed : Printed count (t .last) text
+  pub printed : Printed count last text
   pub bytes : t .written .bytes ≡ length text

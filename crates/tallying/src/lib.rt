@@ -158,7 +158,7 @@ fn put_tally(count: &[u64], messages: u64, answer: Answer, out: &mut [u8]) -> us
     tally_lines::tally(count, messages, answer, out)
 }
 
-// Runs the stream, and prints the counts. The answer tells of the run's last turn, and of the write.
+// Runs the stream, and prints the counts. The answer tells of the reads and of the write. It is small: a larger one, with the last message, slows the loop.
 pub fn print_tally() -> Tally
     ensures { λ r. ⌜ Finished r ⌝ }
 {

@@ -3,22 +3,24 @@ ghost use mathlib.Core.Path.{_≡_};
 ghost use lib.ListN.{length};
 ghost use Rattle.tallying.specs.Reads.{Printed};
 use super::Turn;
+use standard::Brought;
 use standard::Written;
 
-// The last turn of the run whose counters were printed, and the write of their lines.
+// The reads of the run whose counters were printed, and the write of their lines.
 pub struct Tally {
-    last: Turn,
+    brought: Brought,
     written: Written,
 }
 
 // Writes the lines of the counters that a run left.
 pub(super) fn write(count: &[u64], last: Turn, text: &[u8]) -> Tally
     requires { ⌜ Printed (now count) last (now text) ⌝ }
-    ensures { λ r. ⌜ r .last ≡ last ⌝ }
+    ensures { λ r. ⌜ r .brought ≡ last .brought ⌝ }
     ensures { λ r. ⌜ r .written .bytes ≡ length (now (text .entry)) ⌝ }
 {
     let written = standard::write(text);
-    Tally { last, written }
+    let brought = last.brought;
+    Tally { brought, written }
 }
 
 // Whether the write was taken.

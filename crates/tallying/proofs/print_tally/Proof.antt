@@ -1,16 +1,15 @@
 -- `tallying::print_tally` meets its contract.
 -- Assumes nothing.
 use Prim.Native.Nat.{ℕ}
-use mathlib.Core.Path.{_≡_, refl, sym}
+use mathlib.Core.Path.{refl, sym}
 use mathlib.Core.List.{List}
 use native.Mathlib.Omega.{arith}
-use lib.ListN.{length, replicate, take}
+use lib.ListN.{replicate, take}
 use lib.Seq.{length-take-le}
 use Rattle.text.specs.Decimal.{Wrote}
 use Rattle.text.proofs.Laws.{wrote-long, wrote-front}
 use Rattle.tally_lines.specs.Lines.{tallyOf}
 use Rattle.tallying.specs.declared.Turn.{Turn}
-use Rattle.tallying.specs.declared.printed.Tally.{Tally}
 use Rattle.tallying.specs.Counts.{sum}
 use Rattle.tallying.specs.Reads.{Tallied, Printed, Finished}
 use borrow.Author.Needs.{needs}
@@ -62,14 +61,15 @@ slice-aggregate-write-all c = search needs
 write-all-requires : tie.Need-write-all-requires
 write-all-requires c κs = search needs
 
--- the lines that were written are the answer's
-told : {count : List ℕ} {last : Turn} {text : List ℕ} (t : Tally) → t .last ≡ last → t .written .bytes ≡ length text → Printed count last text → Finished t
-told {count} {last} {text} t e n p = record { count = count; text = text; printed = rw e p; bytes = n }
-
 finished : (m : tie.After-write) → Finished (m .write .result)
-finished m =
-    told (m .write .result) (m .write .ensures .0) (m .write .ensures .1)
-    (printed (m .before .before .before .before .before .before .before .before .before .before .run .ensures) (m .before .before .before .before .put-tally .ensures))
+finished m = record {
+  last = _;
+  reads = m .write .ensures .0;
+  count = _;
+  text = _;
+  printed = printed (m .before .before .before .before .before .before .before .before .before .before .run .ensures) (m .before .before .before .before .put-tally .ensures);
+  bytes = m .write .ensures .1;
+}
 
 returns : tie.Need-returns
 returns c = finished (c .before .before .before .before)
