@@ -7,7 +7,6 @@ use mathlib.Core.List.{List}
 use native.Mathlib.Omega.{arith}
 use lib.Dec.{ltb}
 use lib.ListN.{length, drop}
-use Rattle.reader.specs.declared.Window.{Window}
 use Rattle.reader.specs.Window.{windowOf}
 use Rattle.walk.specs.declared.Walk.{Walk}
 use Rattle.walk.specs.declared.Stepped.{Stepped}
@@ -17,7 +16,6 @@ use Rattle.walk.specs.Walk.{frameSize, put, soundOf, roomOf, judgeOf, moreOf, d
 use Rattle.walk.proofs.Cases.{step-30, step-33, step-moves}
 use Rattle.demand.specs.Promises.{Reached, start, next}
 use Rattle.demand.proofs.Demand3.{walk-never-30}
-use Rattle.lines.specs.declared.Why.the-variants.{Used, Full, Stopped}
 use Rattle.lines.specs.Lines.{lineOf}
 use Rattle.lines.specs.Blocks.{refusesOf, stopsOf, Block, Sane, blockOf}
 use Rattle.lines.proofs.Moves.{step-moved}
@@ -56,14 +54,12 @@ reaches (suc k) room w b i R =
 -- a step that moves does not refuse
 moves : (w : Walk) (p : List ℕ) → refusesOf (movedOf windowOf w p .answer) ≡ false
 unfolding movedOf movedBy doneOf
-moves w p = go (ltb (w .seen + length p) (frameSize (put (w .held) (w .seen) p)))
+moves w p = go (put (w .held) (w .seen) p) (ltb (w .seen + length p) (frameSize (put (w .held) (w .seen) p)))
   where
-    h : List ℕ
-    h = put (w .held) (w .seen) p
-
-    go : (x : Bool) → refusesOf (cond x (moreOf w (put (w .held) (w .seen) p) (length p)) (doneOf w (frameSize (put (w .held) (w .seen) p) - w .seen) (frameSize (put (w .held) (w .seen) p)) (judgeOf windowOf (put (w .held) (w .seen) p) (frameSize (put (w .held) (w .seen) p)))) .answer) ≡ false
-    go true = refl
-    go false = refl
+    go : (h : List ℕ) (x : Bool)
+        → refusesOf (cond x (moreOf w h (length p)) (doneOf w (frameSize h - w .seen) (frameSize h) (judgeOf windowOf h (frameSize h))) .answer) ≡ false
+    go h true = refl
+    go h false = refl
 
 -- in a reached state a refusal is 33
 pub refused-33 : (w : Walk) (p : List ℕ) → Reached windowOf w → refusesOf (stepOf windowOf w p .answer) ≡ true → stepOf windowOf w p .answer ≡ Refused 33

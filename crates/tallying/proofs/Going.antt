@@ -1,6 +1,6 @@
 -- The loop's turns as a run over an input, of which each read shows some more: what has come, whatever comes behind it.
 -- Assumes nothing.
-use Prim.Native.Nat.{ℕ, _+_, _-_, _≤_, _<_, min}
+use Prim.Native.Nat.{ℕ, _-_, _≤_, _<_, min}
 use mathlib.Core.Path.{_≡_, refl, sym, ap, subst, _∙_}
 use mathlib.Core.Bool.{true, false}
 use mathlib.Core.List.{List, [], _∷_, _++_, append-nil, append-assoc}
@@ -11,31 +11,29 @@ use lib.Seq.{length-take-le, take-add, take-at, take-all, drop-at}
 use Rattle.standard.specs.declared.Brought.{Brought}
 use Rattle.standard.specs.Reads.{Silent}
 use Rattle.records.specs.declared.Message.{Message as Record}
-use Rattle.reader.specs.declared.Window.the-variants.{Incomplete}
-use Rattle.reader.specs.Window.{windowOf}
 use Rattle.laws.proofs.Numbers.{number-low}
 use Rattle.stream.specs.declared.Stream.{Stream}
 use Rattle.stream.specs.declared.Step.{Step}
 use Rattle.stream.specs.declared.Answer.{Answer}
-use Rattle.stream.specs.declared.Answer.the-variants.{Wants, Ready, Nothing, Refused}
+use Rattle.stream.specs.declared.Answer.the-variants.{Wants, Ready, Refused}
 use Rattle.stream.specs.State.{freshState, marks}
 use Rattle.stream.specs.Next.{windowAt, nextOf}
-use Rattle.stream.specs.Room.{roomOf, roomBuffer}
+use Rattle.stream.specs.Room.{roomBuffer}
 use Rattle.stream.specs.Told.{toldOf, failedOf}
 use Rattle.stream_laws.specs.Ends.{stops}
 use Rattle.stream_laws.specs.Runs.{Sound}
 use Rattle.stream_laws.proofs.Steps.{31-next, 30-next, 33-next, Next, no-next, message, wants, marked-next, next-is, 31-room, 30-room, 34-room, 33-room, front, there, Room, no-room, made, room-is, 30-told, 32-told, 33-told, Told, no-told, came, nothing, marked-told, told-is, Failed, 30-failed, marked-failed, failed-is}
 use Rattle.stream_laws.proofs.Calls.{stops-not, marks-stops, next-waits, room-ready, told-came, failed-stops}
 use Rattle.stream_laws.proofs.Reads52.{short}
-use Rattle.heard.specs.Heard.{Heard, before, ends, cutOf, heardOf}
-use Rattle.heard.specs.Runs.{Cutting, Brings, Read, roomed, ReadAt, toldAt, Run, fresh, message as a-message, read, Stopped, by-told, Fits}
+use Rattle.heard.specs.Heard.{before, ends, cutOf, heardOf}
+use Rattle.heard.specs.Runs.{Cutting, Read, roomed, Run, fresh, message as a-message, read, Stopped, by-told}
 use Rattle.heard.proofs.Inputs.{heard-cut, heard-bad}
 use Rattle.heard.proofs.Windows.{room-same}
 use Rattle.heard.proofs.Holds.{Holds, roomed-holds, holds}
 use Rattle.heard.proofs.Ended.{ended as heard-ended}
 use Rattle.tallying.specs.declared.Turn.{Turn}
 use Rattle.tallying.specs.Counts.{raised, Taken, none, more, Drained}
-use Rattle.tallying.specs.Reads.{tellOf, Came, ReadSome, countsOf, Ends, judged, ended, failed, full, Tallied}
+use Rattle.tallying.specs.Reads.{Came, ReadSome, countsOf, Ends, judged, ended, failed, full, Tallied}
 use Rattle.tallying.proofs.Counting.{counters-on, drained-stops}
 use Rattle.tallying.proofs.Turns.{ready-or, tell-case, turned}
 

@@ -10,7 +10,7 @@ use Rattle.standard.specs.declared.Brought.{Brought}
 use Rattle.standard.specs.Reads.{Silent}
 use Rattle.records.specs.declared.Message.{Message as Record}
 use Rattle.stream.specs.declared.Answer.{Answer}
-use Rattle.stream.specs.declared.Answer.the-variants.{Nothing, Refused}
+use Rattle.stream.specs.declared.Answer.the-variants.{Nothing}
 use Rattle.heard.specs.Heard.{Heard, heardAt, heardOf}
 use Rattle.tallying.specs.declared.Turn.{Turn}
 use Rattle.tallying.specs.Reads.{Ends, judged, ended, failed, full, Tallied}

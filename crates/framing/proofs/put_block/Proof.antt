@@ -1,14 +1,12 @@
 -- `framing::put_block` meets its contract.
 -- Assumes nothing.
-use Prim.Native.Nat.{_≤_, _<_, _-_}
+use Prim.Native.Nat.{_≤_, _-_}
 use mathlib.Core.Path.{_≡_, refl, sym, subst, _∙_}
 use mathlib.Core.Bool.{true}
-use mathlib.Core.List.{List}
 use mathlib.Core.Logic.{inl, inr}
 use native.Mathlib.Omega.{arith}
 use borrow.Author.Tests.{not-true, not-false}
-use lib.ListN.{length}
-use lib.Seq.{length-take-le}
+use lib.ListN.{length, length-take}
 use Rattle.reader.specs.Window.{windowOf}
 use Rattle.walk.specs.declared.Walk.{Walk}
 use Rattle.lines.specs.Blocks.{Called}
@@ -54,7 +52,7 @@ slice-reshare-prefix-put : tie.Need-slice-reshare-prefix-put Inv-loop μ-loop
 slice-reshare-prefix-put c = let m = c .before .before in omega (arith, called m .inside (omega arith), long m)
 
 slice-aggregate-put : tie.Need-slice-aggregate-put Inv-loop μ-loop
-slice-aggregate-put c = let m = c .before .before .before in sym (length-take-le _ _ (omega (arith, called m .inside (omega arith), long m)))
+slice-aggregate-put c = let m = c .before .before .before in simp length-take (omega (arith, called m .inside (omega arith), long m))
 
 put-requires : tie.Need-put-requires Inv-loop μ-loop
 put-requires c κs =

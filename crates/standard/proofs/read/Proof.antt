@@ -2,7 +2,6 @@
 -- Assumes nothing.
 use mathlib.Core.Path.{refl}
 use mathlib.Core.Bool.{false≢true}
-use native.Mathlib.Omega.{arith}
 use borrow.Author.Needs.{needs}
 use Rattle.standard.proofs.read.Statement.{statement}
 use Rattle.standard.proofs.read.Tie as tie
