@@ -22,33 +22,33 @@ use Rattle.standard.specs.declared.Brought.{Brought}
 use Rattle.standard.specs.Reads.{Reads}
 use Rattle.framing.specs.declared.sent.Sent.{Sent}
 use Rattle.framing.specs.declared.Turn.{Turn}
-use Rattle.framing.specs.Texts.{Closes}
-use Rattle.framing.specs.Told.{Behind, ReadSome, Ended}
+use Rattle.framing.specs.Texts.{Lines, Closes}
+use Rattle.framing.specs.Told.{Short, Behind, ReadSome, Ended}
 use Rattle.framing.proofs.Stops.{reached-sane, reaches, refused-33}
 
 -- ---- over a block
 
-pub record In (b : List ℕ) (w₀ w : Walk) (i : ℕ) : Type 0 where
+pub record In (q : Bool) (b : List ℕ) (w₀ w : Walk) (i : ℕ) : Type 0 where
   pub inside : i ≤ length b
   pub reached : Reached windowOf w
-  pub since : Since windowOf w₀ b 0 w i
+  pub since : Since q windowOf w₀ b 0 w i
   pub bytes : w .offset + w .seen ≡ w₀ .offset + w₀ .seen + i
 
-pub in-start : (b : List ℕ) (w : Walk) → Reached windowOf w → In b w w 0
-in-start b w r = record { inside = omega arith; reached = r; since = record { texts = []; rest = λ c. c }; bytes = omega arith }
+pub in-start : (q : Bool) (b : List ℕ) (w : Walk) → Reached windowOf w → In q b w w 0
+in-start q b w r = record { inside = omega arith; reached = r; since = record { texts = []; rest = λ c. c }; bytes = omega arith }
 
-module _ (b : List ℕ) (w₀ w : Walk) (i : ℕ) (out after : List ℕ) (r : Blocked) (I : In b w₀ w i) (C : Called windowOf w b i out 0 after r) where
+module _ (q : Bool) (b : List ℕ) (w₀ w : Walk) (i : ℕ) (out after : List ℕ) (r : Blocked) (I : In q b w₀ w i) (C : Called q windowOf w b i out 0 after r) where
   pub called-long : length after ≡ length out
-  called-long = ap length (C .text) ∙ length-sets out 0 (linesOf (callOf windowOf w b i out 0 .entries))
+  called-long = ap length (C .text) ∙ length-sets out 0 (linesOf q (callOf q windowOf w b i out 0 .entries))
 
   pub called-reached : Reached windowOf (r .state)
-  called-reached = rw (C .end) (reaches (length b - i) (length out - 0) w b i (I .reached) .reached)
+  called-reached = rw (C .end) (reaches q (length b - i) (length out - 0) w b i (I .reached) .reached)
 
-  pub called-in : In b w₀ (r .state) (r .from)
+  pub called-in : In q b w₀ (r .state) (r .from)
   called-in =
-      let k = kept windowOf (length b - i) (length out - 0) w b i (I .inside) in
-      let x : r .state ≡ callOf windowOf w b i out 0 .state = ap (λ (z : Blocked). z .state) (C .end) in
-      let y : r .from ≡ callOf windowOf w b i out 0 .from = ap (λ (z : Blocked). z .from) (C .end) in
+      let k = kept q windowOf (length b - i) (length out - 0) w b i (I .inside) in
+      let x : r .state ≡ callOf q windowOf w b i out 0 .state = ap (λ (z : Blocked). z .state) (C .end) in
+      let y : r .from ≡ callOf q windowOf w b i out 0 .from = ap (λ (z : Blocked). z .from) (C .end) in
       record {
         inside = rw y (k .within);
         reached = called-reached;
@@ -61,20 +61,21 @@ module _ (b : List ℕ) (w₀ w : Walk) (i : ℕ) (out after : List ℕ) (r : Bl
 
   pub called-went : i < length b → 137 ≤ length out → stopsOf (r .why) ≡ false → i < r .from
   called-went h l s =
-      let y : r .why ≡ callOf windowOf w b i out 0 .why = ap (λ (z : Blocked). z .why) (C .end) in
-      rw (C .end) (went windowOf (length b - i) (length out - 0) w b i h (omega arith) (omega arith) (sym (ap stopsOf y) ∙ s))
+      let y : r .why ≡ callOf q windowOf w b i out 0 .why = ap (λ (z : Blocked). z .why) (C .end) in
+      rw (C .end) (went q windowOf (length b - i) (length out - 0) w b i h (omega arith) (omega arith) (sym (ap stopsOf y) ∙ s))
 
   -- where it stopped, the next step refuses 33
   pub called-33 : stopsOf (r .why) ≡ true → stepOf windowOf (r .state) (drop (r .from) b) .answer ≡ Refused 33
   called-33 s =
-      let y : r .why ≡ callOf windowOf w b i out 0 .why = ap (λ (z : Blocked). z .why) (C .end) in
-      let R = reaches (length b - i) (length out - 0) w b i (I .reached) in
+      let y : r .why ≡ callOf q windowOf w b i out 0 .why = ap (λ (z : Blocked). z .why) (C .end) in
+      let R = reaches q (length b - i) (length out - 0) w b i (I .reached) in
       rw (C .end) (refused-33 _ _ (R .reached) (R .refuses (sym (ap stopsOf y) ∙ s)))
 
   -- the call is the last, and leads to what was sent
-  pub in-short : (x : Sent) → x .state ≡ r .state → (x .written .taken ≡ false) ⊎ (stopsOf (r .why) ≡ true) → Behind b w₀ x false
-  in-short x e y =
+  pub in-short : (x : Sent) → x .quiet ≡ q → x .state ≡ r .state → (x .written .taken ≡ false) ⊎ (stopsOf (r .why) ≡ true) → Behind q b w₀ x false
+  in-short x u e y =
       record {
+        told = u;
         reached = rw e called-reached;
         good = λ e. absurd (false≢true e);
         calls = λ e. absurd (false≢true e);
@@ -92,9 +93,19 @@ module _ (b : List ℕ) (w₀ w : Walk) (i : ℕ) (out after : List ℕ) (r : Bl
         };
       }
 
-pub in-end : (b : List ℕ) (w₀ : Walk) (x : Sent) (i : ℕ) → In b w₀ (x .state) i → length b ≤ i → x .written .taken ≡ true → Behind b w₀ x true
-in-end b w₀ x i I h t =
+-- the lines of a call are of the kind that all before were
+pub lines-of : (q : Bool) (s : Sent) (b : List ℕ) (i : ℕ) (out after : List ℕ) (r : Blocked) → s .quiet ≡ q → s .written .taken ≡ true
+    → Called q windowOf (s .state) b i out 0 after r → Lines s b i r (take (r .at) after)
+lines-of q s b i out after r u t C =
+    record { good = t; out = out; after = after; called = subst (λ (y : Bool). Called y windowOf (s .state) b i out 0 after r) (sym u) C; lines = refl }
+
+pub as-asked : {q p : Bool} {b : List ℕ} {w : Walk} {x : Sent} {whole : Bool} → q ≡ p → Behind q b w x whole → Behind p b w x whole
+as-asked {b = b} {w} {x} {whole} e B = subst (λ (y : Bool). Behind y b w x whole) e B
+
+pub in-end : (q : Bool) (b : List ℕ) (w₀ : Walk) (x : Sent) (i : ℕ) → In q b w₀ (x .state) i → length b ≤ i → x .quiet ≡ q → x .written .taken ≡ true → Behind q b w₀ x true
+in-end q b w₀ x i I h u t =
     record {
+      told = u;
       reached = I .reached;
       good = λ e. t;
       calls = λ e. record { texts = I .since .texts; rest = λ {qs} {ts} {w'} c. I .since .rest (next b i h c) };
@@ -110,23 +121,25 @@ pub read-none : (s : Sent) (u v : Brought) (buf : List ℕ) (n : ℕ) → Reads 
 read-none s u v buf n m e z = record { reads = m; none = λ _. (refl, refl, refl); some = λ f. absurd (f (sym e ∙ z)) }
 
 pub read-some : (s : Sent) (u v : Brought) (buf : List ℕ) (n : ℕ) (x : Sent) (whole : Bool) → Reads u (length buf) v → n ≡ v .bytes → (n ≡ 0 → ⊥)
-    → Behind (take n buf) (s .state) x whole → ReadSome s u (record { sent = x; brought = v; whole = whole; more = whole }) buf
+    → Behind (s .quiet) (take n buf) (s .state) x whole → ReadSome s u (record { sent = x; brought = v; whole = whole; more = whole }) buf
 read-some s u v buf n x whole m e z B = record {
   reads = m;
   none = λ f. absurd (z (e ∙ f));
-  some = λ _. (subst (λ (k : ℕ). Behind (take k buf) (s .state) x whole) e B, refl);
+  some = λ _. (subst (λ (k : ℕ). Behind (s .quiet) (take k buf) (s .state) x whole) e B, refl);
 }
 
 -- from the fresh state on
-pub record Reading (s : Sent) (v : Brought) : Type 0 where
+pub record Reading (q : Bool) (s : Sent) (v : Brought) : Type 0 where
+  pub told : s .quiet ≡ q
   pub total : v .total ≡ s .state .offset + s .state .seen
   pub pieces : List (List ℕ)
-  pub over : Over windowOf pieces freshOf (s .state)
+  pub over : Over q windowOf pieces freshOf (s .state)
   pub reached : Reached windowOf (s .state)
   pub good : s .written .taken ≡ true
 
-pub reading-start : (s : Sent) (v : Brought) → s .state ≡ freshOf → s .written .taken ≡ true → v .total ≡ 0 → Reading s v
-reading-start s v e t z = record {
+pub reading-start : (q : Bool) (s : Sent) (v : Brought) → s .quiet ≡ q → s .state ≡ freshOf → s .written .taken ≡ true → v .total ≡ 0 → Reading q s v
+reading-start q s v u e t z = record {
+  told = u;
   total = z ∙ ap (λ (w : Walk). w .offset + w .seen) (sym e);
   pieces = [];
   over = rw e (record { texts = []; rest = λ c. c });
@@ -134,8 +147,8 @@ reading-start s v e t z = record {
   good = t;
 }
 
-over-again : (ps qs : List (List ℕ)) (w₀ w w' : Walk) → Over windowOf ps w₀ w → Over windowOf qs w w' → Over windowOf (ps ++ qs) w₀ w'
-over-again ps qs w₀ w w' F G =
+over-again : (q : Bool) (ps qs : List (List ℕ)) (w₀ w w' : Walk) → Over q windowOf ps w₀ w → Over q windowOf qs w w' → Over q windowOf (ps ++ qs) w₀ w'
+over-again q ps qs w₀ w w' F G =
     record {
       texts = F .texts ++ G .texts;
       rest = λ {qs = rs} {ts} {w' = x} c. rw (append-assoc ps qs rs, append-assoc (F .texts) (G .texts) ts) (F .rest (G .rest c));
@@ -145,7 +158,7 @@ zero-or : (n : ℕ) → (n ≡ 0) ⊎ (n ≡ 0 → ⊥)
 zero-or zero = inl refl
 zero-or (suc n) = inr (λ e. omega arith)
 
-module _ (s : Sent) (v : Brought) (t : Turn) (buf : List ℕ) (R : Reading s v) (B : ReadSome s v t buf) where
+module _ (q : Bool) (s : Sent) (v : Brought) (t : Turn) (buf : List ℕ) (R : Reading q s v) (B : ReadSome s v t buf) where
   abbrev n : ℕ
   n = t .brought .bytes
 
@@ -162,23 +175,25 @@ module _ (s : Sent) (v : Brought) (t : Turn) (buf : List ℕ) (R : Reading s v) 
   pub turn-went : t .more ≡ true → s .state .offset + s .state .seen < t .sent .state .offset + t .sent .state .seen
   turn-went m = omega (arith, walked m, came m)
 
-  pub reading-on : t .more ≡ true → Reading (t .sent) (t .brought)
+  pub reading-on : t .more ≡ true → Reading q (t .sent) (t .brought)
   reading-on m =
       let D = B .some (came m) .0 in
       record {
+        told = D .told ∙ R .told;
         total = omega (arith, B .reads .total, R .total, walked m, reached-sane (D .reached) .bytes);
         pieces = R .pieces ++ (take n buf ∷ []);
-        over = over-again (R .pieces) (take n buf ∷ []) freshOf (s .state) (t .sent .state) (R .over) (D .calls (turn-whole m));
+        over = over-again q (R .pieces) (take n buf ∷ []) freshOf (s .state) (t .sent .state) (R .over) (rw (R .told) at (D .calls (turn-whole m)));
         reached = D .reached;
         good = D .good (turn-whole m);
       }
 
-  pub reading-ended : t .more ≡ false → 0 < length buf → Ended t
+  pub reading-ended : t .more ≡ false → 0 < length buf → Ended q t
   reading-ended m l =
       ⊎-elim
       (λ z.
       let e = B .none z in
       record {
+        told = ap (λ (x : Sent). x .quiet) (e .0) ∙ R .told;
         reached = rw (e .0) (R .reached);
         pieces = R .pieces;
         last = s .state;
@@ -198,13 +213,14 @@ module _ (s : Sent) (v : Brought) (t : Turn) (buf : List ℕ) (R : Reading s v) 
       let D = B .some f in
       let w : t .whole ≡ false = sym (D .1) ∙ m in
       record {
+        told = D .0 .told ∙ R .told;
         reached = D .0 .reached;
         pieces = R .pieces;
         last = s .state;
         over = R .over;
         all = λ e. absurd (false≢true (sym w ∙ e));
         piece = take n buf;
-        short = λ e. D .0 .short e;
+        short = λ e. subst (λ (y : Bool). Short y (take n buf) (s .state) (t .sent)) (R .told) (D .0 .short e);
       })
       (zero-or n)
 
@@ -214,9 +230,9 @@ by-whole : {A : Type 0} (b : Bool) → (b ≡ true → A) → (b ≡ false → A
 by-whole true f g = f refl
 by-whole false f g = g refl
 
-pub closes : (t : Turn) (text : List ℕ) → Ended t → t .sent .written .taken ≡ true
+pub closes : (q : Bool) (t : Turn) (text : List ℕ) → Ended q t → t .sent .written .taken ≡ true
     → text ≡ closingOf (t .sent .state .offset) (t .sent .state .seen) (t .sent .state .frames) (t .sent .state .accepted) → Closes (t .sent) (t .brought) text
-closes t text E f e = record {
+closes q t text E f e = record {
   good = f;
   done =
       by-whole (t .whole) (λ w. inl (E .all w .2))

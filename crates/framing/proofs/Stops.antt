@@ -12,7 +12,7 @@ use Rattle.walk.specs.declared.Walk.{Walk}
 use Rattle.walk.specs.declared.Stepped.{Stepped}
 use Rattle.walk.specs.declared.Answer.{Answer}
 use Rattle.walk.specs.declared.Answer.the-variants.{Frame, WantsMore, Refused}
-use Rattle.walk.specs.Walk.{frameSize, put, soundOf, roomOf, judgeOf, moreOf, doneOf, movedBy, movedOf, stepOf}
+use Rattle.walk.specs.Walk.{frameSize, put, soundOf, countable, judgeOf, moreOf, doneOf, movedBy, movedOf, stepOf}
 use Rattle.walk.proofs.Cases.{step-30, step-33, step-moves}
 use Rattle.demand.specs.Promises.{Reached, start, next}
 use Rattle.demand.proofs.Demand3.{walk-never-30}
@@ -30,26 +30,26 @@ pub record Reaches (b : List ℕ) (r : Block) : Type 0 where
   pub reached : Reached windowOf (r .state)
   pub refuses : stopsOf (r .why) ≡ true → refusesOf (stepOf windowOf (r .state) (drop (r .from) b) .answer) ≡ true
 
-reaches-after : (k room : ℕ) (w : Walk) (b : List ℕ) (i : ℕ) → Reached windowOf w
-    → ((rm : ℕ) → Reaches b (blockOf windowOf k rm (stepOf windowOf w (drop i b) .state) b (i + stepOf windowOf w (drop i b) .used)))
-    → (a : Answer) → stepOf windowOf w (drop i b) .answer ≡ a → Reaches b (after windowOf a k room (stepOf windowOf w (drop i b)) w b i)
-reaches-after k room w b i R IH (Frame at size what) e =
-    let r = IH (room - length (lineOf (record { at = at; size = size; what = what }))) in
+reaches-after : (q : Bool) (k room : ℕ) (w : Walk) (b : List ℕ) (i : ℕ) → Reached windowOf w
+    → ((rm : ℕ) → Reaches b (blockOf q windowOf k rm (stepOf windowOf w (drop i b) .state) b (i + stepOf windowOf w (drop i b) .used)))
+    → (a : Answer) → stepOf windowOf w (drop i b) .answer ≡ a → Reaches b (after q windowOf a k room (stepOf windowOf w (drop i b)) w b i)
+reaches-after q k room w b i R IH (Frame at size what) e =
+    let r = IH (room - length (lineOf q (record { at = at; size = size; what = what }))) in
     record { reached = r .reached; refuses = r .refuses }
-reaches-after k room w b i R IH WantsMore e = IH room
-reaches-after k room w b i R IH (Refused n) e = record { reached = R; refuses = λ _. rw e }
+reaches-after q k room w b i R IH WantsMore e = IH room
+reaches-after q k room w b i R IH (Refused n) e = record { reached = R; refuses = λ _. rw e }
 
-pub reaches : (k room : ℕ) (w : Walk) (b : List ℕ) (i : ℕ) → Reached windowOf w → Reaches b (blockOf windowOf k room w b i)
+pub reaches : (q : Bool) (k room : ℕ) (w : Walk) (b : List ℕ) (i : ℕ) → Reached windowOf w → Reaches b (blockOf q windowOf k room w b i)
 unfolding blockOf
-reaches zero room w b i R = record { reached = R; refuses = λ e. absurd (false≢true e) }
-reaches (suc k) room w b i R =
+reaches q zero room w b i R = record { reached = R; refuses = λ e. absurd (false≢true e) }
+reaches q (suc k) room w b i R =
     turn b i room
-    (λ le. rw (block-used windowOf (suc k) room w b i le) (record { reached = R; refuses = λ e. absurd (false≢true e) }))
-    (λ lt r. rw (block-full windowOf k room w b i lt r) (record { reached = R; refuses = λ e. absurd (false≢true e) }))
+    (λ le. rw (block-used q windowOf (suc k) room w b i le) (record { reached = R; refuses = λ e. absurd (false≢true e) }))
+    (λ lt r. rw (block-full q windowOf k room w b i lt r) (record { reached = R; refuses = λ e. absurd (false≢true e) }))
     (λ lt r.
     let st = stepOf windowOf w (drop i b) in
-    rw (block-step windowOf k room w b i st lt r refl)
-    (reaches-after k room w b i R (λ rm. reaches k rm (st .state) b (i + st .used) (next (drop i b) R)) (st .answer) refl))
+    rw (block-step q windowOf k room w b i st lt r refl)
+    (reaches-after q k room w b i R (λ rm. reaches q k rm (st .state) b (i + st .used) (next (drop i b) R)) (st .answer) refl))
 
 -- a step that moves does not refuse
 moves : (w : Walk) (p : List ℕ) → refusesOf (movedOf windowOf w p .answer) ≡ false
@@ -65,10 +65,10 @@ moves w p = go (put (w .held) (w .seen) p) (ltb (w .seen + length p) (frameSize 
 pub refused-33 : (w : Walk) (p : List ℕ) → Reached windowOf w → refusesOf (stepOf windowOf w p .answer) ≡ true → stepOf windowOf w p .answer ≡ Refused 33
 refused-33 w p R e = sound (soundOf w) refl
   where
-    room : (x : Bool) → soundOf w ≡ true → roomOf (w .offset) (w .seen) (length p) ≡ x → stepOf windowOf w p .answer ≡ Refused 33
+    room : (x : Bool) → soundOf w ≡ true → countable (w .offset) (w .seen) (length p) ≡ x → stepOf windowOf w p .answer ≡ Refused 33
     room false s r = ap (λ (y : Stepped). y .answer) (sym (step-33 windowOf w p s r))
     room true s r = absurd (false≢true (sym (moves w p) ∙ ap (λ (y : Stepped). refusesOf (y .answer)) (sym (step-moves windowOf w p s r)) ∙ e))
 
     sound : (x : Bool) → soundOf w ≡ x → stepOf windowOf w p .answer ≡ Refused 33
     sound false s = absurd (walk-never-30 w p R (ap (λ (y : Stepped). y .answer) (sym (step-30 windowOf w p s))))
-    sound true s = room (roomOf (w .offset) (w .seen) (length p)) s refl
+    sound true s = room (countable (w .offset) (w .seen) (length p)) s refl

@@ -17,12 +17,13 @@ use Rattle.lines.specs.Lines.{closingOf}
 use Rattle.lines.specs.Blocks.{Called}
 use Rattle.framing.specs.declared.sent.Sent.{Sent}
 
--- the lines of the call of `walk_block` over the block b from place i on, from the state that was sent so far, that answered r; all writes were taken
+-- the lines, quiet or not as all before, of the call of `walk_block` over the block b from place i on, from the state that was sent so far, that answered r;
+-- all writes were taken
 pub record Lines (s : Sent) (b : List ℕ) (i : ℕ) (r : Blocked) (text : List ℕ) : Type 0 where
   pub good : s .written .taken ≡ true
   pub out : List ℕ
   pub after : List ℕ
-  pub called : Called windowOf (s .state) b i out 0 after r
+  pub called : Called (s .quiet) windowOf (s .state) b i out 0 after r
   pub lines : text ≡ take (r .at) after
 
 -- the walk can no further: the step from w on, over what is left of a block, refuses 33

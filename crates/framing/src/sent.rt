@@ -10,25 +10,35 @@ use standard::Brought;
 use standard::Written;
 use walk::Walk;
 
-// The state up to which all lines are handed to writes, the last write, and whether it was that of the closing lines.
+// The state up to which all lines are handed to writes, quiet or not; the last write, and whether it was that of the closing lines.
 pub struct Sent {
+    quiet: bool,
     state: Walk,
     written: Written,
     closed: bool,
 }
 
 // Nothing, at the fresh state.
-pub(super) fn begun() -> Sent
+pub(super) fn begun(quiet: bool) -> Sent
+    ensures { λ r. ⌜ r .quiet ≡ quiet ⌝ }
     ensures { λ r. ⌜ r .state ≡ freshOf ⌝ }
     ensures { λ r. ⌜ r .written .taken ≡ true ⌝ }
 {
     let state = walk::fresh();
     let written = standard::unwritten();
     Sent {
+        quiet,
         state,
         written,
         closed: false,
     }
+}
+
+// Whether the lines of accepted frames are left out.
+pub(super) fn quiet(s: Sent) -> bool
+    ensures { λ r. ⌜ r ≡ s .quiet ⌝ }
+{
+    s.quiet
 }
 
 // The state.
@@ -50,12 +60,14 @@ pub(super) fn taken(s: Sent) -> bool
 // Writes the lines of one call.
 pub(super) fn put(s: Sent, block: &[u8], from: usize, r: Blocked, text: &[u8]) -> Sent
     requires { ⌜ Lines s (now block) from r (now text) ⌝ }
+    ensures { λ x. ⌜ x .quiet ≡ s .quiet ⌝ }
     ensures { λ x. ⌜ x .state ≡ r .state ⌝ }
     ensures { λ x. ⌜ x .written .bytes ≡ length (now (text .entry)) ⌝ }
 {
     let written = standard::write(text);
     let state = r.state;
     Sent {
+        quiet: s.quiet,
         state,
         written,
         closed: false,
@@ -65,6 +77,7 @@ pub(super) fn put(s: Sent, block: &[u8], from: usize, r: Blocked, text: &[u8]) -
 // Writes the closing lines.
 pub(super) fn close(s: Sent, b: Brought, text: &[u8]) -> Sent
     requires { ⌜ Closes s b (now text) ⌝ }
+    ensures { λ x. ⌜ x .quiet ≡ s .quiet ⌝ }
     ensures { λ x. ⌜ x .state ≡ s .state ⌝ }
     ensures { λ x. ⌜ x .written .bytes ≡ length (now (text .entry)) ⌝ }
     ensures { λ x. ⌜ x .closed ≡ true ⌝ }
@@ -72,6 +85,7 @@ pub(super) fn close(s: Sent, b: Brought, text: &[u8]) -> Sent
     let written = standard::write(text);
     let state = s.state;
     Sent {
+        quiet: s.quiet,
         state,
         written,
         closed: true,

@@ -25,7 +25,7 @@ use Rattle.stream_laws.specs.Runs.{Sound}
 use Rattle.stream_laws.proofs.Steps.{31-next, 30-next, 33-next, Next, no-next, message, wants, marked-next, next-is, 31-room, 30-room, 34-room, 33-room, front, there, Room, no-room, made, room-is, 30-told, 32-told, 33-told, Told, no-told, came, nothing, marked-told, told-is, Failed, 30-failed, marked-failed, failed-is}
 use Rattle.stream_laws.proofs.Calls.{stops-not, marks-stops, next-waits, room-ready, told-came, failed-stops}
 use Rattle.stream_laws.proofs.Reads52.{short}
-use Rattle.heard.specs.Heard.{before, ends, cutOf, heardOf}
+use Rattle.heard.specs.Heard.{before, ends, stopAt, heardOf}
 use Rattle.heard.specs.Runs.{Cutting, Read, roomed, Run, fresh, message as a-message, read, Stopped, by-told}
 use Rattle.heard.proofs.Inputs.{heard-cut, heard-bad}
 use Rattle.heard.proofs.Windows.{room-same}
@@ -196,7 +196,7 @@ module _ {c₀ : List ℕ} {s : Stream} {v : Brought} {b d : List ℕ} (g : Goin
           let q = roomed-holds (g .came) s b [] (g .messages) w a (holds at-end) in
           rw (ap (λ (y : Step). y .answer) e ∙ fails u (failedOf u) (failed-is u) (q .sound) (q .clear))
           (failed (windowAt s b) (silent (C .reads .fails f)) f
-          (last (g .came) (g .messages) (windowAt s b) (cutOf (windowAt s b)) (holds at-end .heard) (heard-cut (windowAt s b) (next-waits s b w .short))))
+          (last (g .came) (g .messages) (windowAt s b) (stopAt (windowAt s b)) (holds at-end .heard) (heard-cut (windowAt s b) (next-waits s b w .short))))
 
       -- the bytes counted
       pub total-fed : x .brought .total ≡ min (length (g .came ++ p)) 18446744073709551615

@@ -15,7 +15,7 @@ use Rattle.stream.specs.declared.Answer.{Answer}
 use Rattle.stream.specs.declared.Answer.the-variants.{Ready, Refused}
 use Rattle.stream.specs.Room.{roomOf, roomBuffer}
 use Rattle.stream.specs.Told.{toldOf, failedOf}
-use Rattle.heard.specs.Heard.{Heard, before, cutOf, heardOf}
+use Rattle.heard.specs.Heard.{Heard, before, stopAt, heardOf}
 use Rattle.heard.specs.Runs.{Fits}
 use Rattle.tally_lines.specs.Lines.{tallyOf}
 use Rattle.tallying.specs.declared.Turn.{Turn}
@@ -51,7 +51,7 @@ pub data Ends (came : List ℕ) (ms : List Record) : Answer → Brought → Type
   ended : {a : Answer} {b : Brought} → Silent b → b .failed ≡ false → heardOf came ≡ record { messages = ms; stop = a }
       → Ends came ms a b
   -- with a failed read: behind the messages of what had come
-  failed : {b : Brought} (w : List ℕ) → Silent b → b .failed ≡ true → heardOf came ≡ record { messages = ms; stop = cutOf w }
+  failed : {b : Brought} (w : List ℕ) → Silent b → b .failed ≡ true → heardOf came ≡ record { messages = ms; stop = stopAt w }
       → Ends came ms (Refused 11 0) b
   -- with 33: the bytes, the messages or the read calls can no more be counted
   full : {b : Brought} (h : Heard) → (Fits came → ⊥) → heardOf came ≡ before ms h → Ends came ms (Refused 33 0) b

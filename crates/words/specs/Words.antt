@@ -1,4 +1,4 @@
--- The words of a program, and the byte of an outcome.
+-- The words of a program, and the byte of an ending.
 -- Assumes nothing.
 use Prim.Native.Nat.{ℕ}
 use mathlib.Core.Bool.{Bool, true, false, cond}
@@ -7,8 +7,8 @@ use lib.Dec.{eqb}
 use Rattle.words.specs.declared.Word.{Word}
 use Rattle.words.specs.declared.Word.the-variants.{Quiet, Status, Other}
 use Rattle.words.specs.declared.Words.{Words}
-use Rattle.words.specs.declared.Outcome.{Outcome}
-use Rattle.words.specs.declared.Outcome.the-variants.{Clean, Found, Failed}
+use Rattle.words.specs.declared.Ending.{Ending}
+use Rattle.words.specs.declared.Ending.the-variants.{Clean, Found, Misused, Failed}
 
 -- the same bytes
 unfoldable pub equal : List ℕ → List ℕ → Bool
@@ -37,8 +37,9 @@ withOf w Quiet has = cond has (record { quiet = true; status = w .status; known 
 withOf w Status has = record { quiet = w .quiet; status = true; known = w .known }
 withOf w Other has = unknownOf w
 
--- `0`, `1` and `3`
-abbrev pub byteOf : Outcome → ℕ
+-- `0`, `1`, `2` and `3`
+abbrev pub byteOf : Ending → ℕ
 byteOf Clean = 48
 byteOf Found = 49
+byteOf Misused = 50
 byteOf Failed = 51

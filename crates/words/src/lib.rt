@@ -18,10 +18,11 @@ pub struct Words {
     pub known: bool,
 }
 
-// How a run went: all was accepted; something was refused, or bytes are left over; a read or a write failed, or the words are none.
-pub enum Outcome {
+// How a run went: all was accepted; something was refused, or bytes are left over; the words are none, so there was no run; a read or a write failed.
+pub enum Ending {
     Clean,
     Found,
+    Misused,
     Failed,
 }
 
@@ -91,14 +92,15 @@ pub fn with(w: Words, word: Word, has: bool) -> Words
     }
 }
 
-// The byte of an outcome: `0`, `1` or `3`.
-pub fn byte_of(o: Outcome) -> u8
+// The byte of an ending: `0`, `1`, `2` or `3`.
+pub fn byte_of(o: Ending) -> u8
     ensures { λ r. ⌜ r ≡ byteOf o ⌝ }
 {
     match o {
-        Outcome::Clean => b'0',
-        Outcome::Found => b'1',
-        Outcome::Failed => b'3',
+        Ending::Clean => b'0',
+        Ending::Found => b'1',
+        Ending::Misused => b'2',
+        Ending::Failed => b'3',
     }
 }
 
@@ -126,9 +128,15 @@ pub fn asked(has: bool) -> Words {
     w
 }
 
-// The last act of a program that was asked for it: the outcome's byte on descriptor 3.
-pub fn say(w: Words, o: Outcome) {
+// The last act of a program that was asked for it: the ending's byte on descriptor 3.
+pub fn say(w: Words, o: Ending) {
     if w.status {
         io::write_all(3, &[byte_of(o)]);
     }
+}
+
+// For words that the program has not: a line on standard error, and the byte.
+pub fn misuse(w: Words, line: &[u8]) {
+    io::write_all(2, line);
+    say(w, Ending::Misused);
 }

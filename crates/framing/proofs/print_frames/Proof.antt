@@ -5,8 +5,7 @@ use mathlib.Core.Path.{sym, ap, _∙_}
 use mathlib.Core.List.{List}
 use native.Mathlib.Omega.{arith}
 use borrow.Author.Tests.{not-true, not-false}
-use lib.ListN.{length}
-use lib.Seq.{length-take-le}
+use lib.ListN.{length, length-take}
 use Rattle.walk.specs.declared.Walk.{Walk}
 use Rattle.lines.specs.Lines.{closingOf}
 use Rattle.text.proofs.Laws.{wrote-long, wrote-front}
@@ -35,11 +34,14 @@ read-all-requires c κs = search needs
 taken-requires : tie.Need-taken-requires
 taken-requires c κs = search needs
 
-complain-requires : tie.Need-complain-requires
-complain-requires c κs = search needs
+went-requires : tie.Need-went-requires
+went-requires c κs = search needs
+
+report-requires : tie.Need-report-requires
+report-requires c κs = search needs
 
 returns : tie.Need-returns
-returns c = failed (sym (c .before .before .taken .ensures) ∙ not-true _ (c .before .if1 .taken))
+returns c = failed (sym (c .before .before .before .taken .ensures) ∙ not-true _ (c .before .before .if1 .taken))
 
 state-requires : tie.Need-state-requires
 state-requires c κs = search needs
@@ -54,34 +56,27 @@ array-share-prefix-out : tie.Need-array-share-prefix-out
 array-share-prefix-out c = search needs
 
 slice-aggregate-close : tie.Need-slice-aggregate-close
-slice-aggregate-close c = sym (length-take-le _ _ (omega (arith, c .before .before .closing .ensures .inside, wrote-long (c .before .before .closing .ensures))))
+slice-aggregate-close c = simp length-take (omega (arith, c .before .before .closing .ensures .inside, wrote-long (c .before .before .closing .ensures)))
 
 abbrev closingAt : Walk → List ℕ
 closingAt w = closingOf (w .offset) (w .seen) (w .frames) (w .accepted)
 
 close-requires : tie.Need-close-requires
 close-requires c κs =
-    closes _ _ (c .before .before .before .before .before .before .before .before .before .before .before .read-all .ensures) (sym (c .before .before .before .before .before .before .taken .ensures) ∙ not-false _ (c .before .before .before .before .before .if1 .left))
+    closes _ _ _ (c .before .before .before .before .before .before .before .before .before .before .before .read-all .ensures) (sym (c .before .before .before .before .before .before .taken .ensures) ∙ not-false _ (c .before .before .before .before .before .if1 .left))
     (wrote-front (c .before .before .closing .ensures) ∙ ap closingAt (c .before .before .before .before .state .ensures))
 
-taken-requires-2 : tie.Need-taken-requires-2
-taken-requires-2 c κs = search needs
+went-requires-2 : tie.Need-went-requires-2
+went-requires-2 c κs = search needs
 
--- the closing lines are written
-finished : (m : tie.After-close) → Finished (m .close .result)
-finished m =
-    whole (m .close .ensures .1 .1)
-    (m .close .ensures .1 .0
-    ∙ ap length (wrote-front (m .before .before .before .closing .ensures) ∙ ap closingAt (m .before .before .before .before .before .state .ensures ∙ sym (m .close .ensures .0))))
-
-complain-requires-2 : tie.Need-complain-requires-2
-complain-requires-2 c κs = search needs
+report-requires-2 : tie.Need-report-requires-2
+report-requires-2 c κs = search needs
 
 returns-2 : tie.Need-returns-2
-returns-2 c = finished (c .before .before .before)
-
-returns-3 : tie.Need-returns-3
-returns-3 c = finished (c .before .before)
+returns-2 c =
+    whole (c .before .before .close .ensures .0 ∙ c .before .before .before .before .before .before .before .before .before .before .before .before .before .before .read-all .ensures .told) (c .before .before .close .ensures .1 .1 .1)
+    (c .before .before .close .ensures .1 .1 .0
+    ∙ ap length (wrote-front (c .before .before .before .before .before .closing .ensures) ∙ ap closingAt (c .before .before .before .before .before .before .before .state .ensures ∙ sym (c .before .before .close .ensures .1 .0))))
 
 pub print-frames-spec : {M : Type 1} → statement M
 print-frames-spec =
@@ -93,7 +88,8 @@ print-frames-spec =
     slice-aggregate-read-all-2
     read-all-requires
     taken-requires
-    complain-requires
+    went-requires
+    report-requires
     returns
     state-requires
     slice-aggregate-closing
@@ -101,7 +97,6 @@ print-frames-spec =
     array-share-prefix-out
     slice-aggregate-close
     close-requires
-    taken-requires-2
-    complain-requires-2
-    returns-2
-    returns-3)
+    went-requires-2
+    report-requires-2
+    returns-2)

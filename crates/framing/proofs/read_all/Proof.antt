@@ -12,10 +12,10 @@ use Rattle.framing.proofs.read_all.Statement.{statement}
 use Rattle.framing.proofs.read_all.Tie as tie
 
 abbrev Inv-loop : tie.InvT-loop
-Inv-loop buf₀ out₀ sent₀ b₀ buf out sent b = Reading sent b × (length out ≡ length out₀) × (length buf ≡ length buf₀) × (137 ≤ length out₀) × (0 < length buf₀)
+Inv-loop quiet buf₀ out₀ sent₀ b₀ buf out sent b = Reading quiet sent b × (length out ≡ length out₀) × (length buf ≡ length buf₀) × (137 ≤ length out₀) × (0 < length buf₀)
 
 abbrev μ-loop : tie.MeasureT-loop
-μ-loop buf₀ out₀ sent₀ b₀ buf out sent b = 2 ^ 64 - (sent .state .offset + sent .state .seen)
+μ-loop quiet buf₀ out₀ sent₀ b₀ buf out sent b = 2 ^ 64 - (sent .state .offset + sent .state .seen)
 
 begun-requires : tie.Need-begun-requires Inv-loop μ-loop
 begun-requires c κs = search needs
@@ -24,7 +24,7 @@ unread-requires : tie.Need-unread-requires Inv-loop μ-loop
 unread-requires c κs = search needs
 
 loop-holds : tie.Need-loop-holds Inv-loop μ-loop
-loop-holds c = (reading-start _ _ (c .before .begun .ensures .0) (c .before .begun .ensures .1) (c .unread .ensures .1), refl, refl, c .before .before .before .before .pre .1, c .before .before .before .before .pre .0)
+loop-holds c = (reading-start _ _ _ (c .before .begun .ensures .0) (c .before .begun .ensures .1 .0) (c .before .begun .ensures .1 .1) (c .unread .ensures .1), refl, refl, c .before .before .before .before .pre .1, c .before .before .before .before .pre .0)
 
 read-some-requires : tie.Need-read-some-requires Inv-loop μ-loop
 read-some-requires c κs = (c .before .before .loop .inv .0 .reached, c .before .before .loop .inv .0 .good, omega arith)
@@ -36,18 +36,18 @@ same-length-2 : tie.Need-same-length-2 Inv-loop μ-loop
 same-length-2 c = c .before .before .before .before .before .before .before .before .read-some .kept .1 .1 .1 .0 ∙ c .before .before .before .before .before .before .before .before .before .before .before .loop .inv .1
 
 returns : tie.Need-returns Inv-loop μ-loop
-returns c = reading-ended _ _ _ _ (c .before .before .before .before .before .before .before .before .before .before .before .loop .inv .0) (c .before .before .before .before .before .before .before .before .read-some .ensures) (not-true _ (c .if1 .taken)) (omega (arith, same-length c, c .before .before .before .before .before .before .before .before .before .before .before .loop .inv .4))
+returns c = reading-ended _ _ _ _ _ (c .before .before .before .before .before .before .before .before .before .before .before .loop .inv .0) (c .before .before .before .before .before .before .before .before .read-some .ensures) (not-true _ (c .if1 .taken)) (omega (arith, same-length c, c .before .before .before .before .before .before .before .before .before .before .before .loop .inv .4))
 
 loop-less : tie.Need-loop-less Inv-loop μ-loop
 loop-less c =
     let m = not-false _ (c .if1 .left) in
     let r = c .before .before .before .before .before .before .before .before .before .before .before .loop .inv .0 in
     let t = c .before .before .before .before .before .before .before .before .read-some .ensures in
-    omega (arith, turn-went _ _ _ _ r t m, reached-sane (reading-on _ _ _ _ r t m .reached) .bytes)
+    omega (arith, turn-went _ _ _ _ _ r t m, reached-sane (reading-on _ _ _ _ _ r t m .reached) .bytes)
 
 loop-again : tie.Need-loop-again Inv-loop μ-loop
 loop-again c = (
-  reading-on _ _ _ _ (c .before .before .before .before .before .before .before .before .before .before .before .loop .inv .0) (c .before .before .before .before .before .before .before .before .read-some .ensures) (not-false _ (c .if1 .left)),
+  reading-on _ _ _ _ _ (c .before .before .before .before .before .before .before .before .before .before .before .loop .inv .0) (c .before .before .before .before .before .before .before .before .read-some .ensures) (not-false _ (c .if1 .left)),
   c .before .before .before .before .before .before .before .before .read-some .kept .1 .1 .1 .0 ∙ c .before .before .before .before .before .before .before .before .before .before .before .loop .inv .1,
   c .before .before .before .before .before .before .before .before .read-some .kept .1 .1 .0 ∙ c .before .before .before .before .before .before .before .before .before .before .before .loop .inv .2,
   c .before .before .before .before .before .before .before .before .before .before .before .loop .inv .3,
