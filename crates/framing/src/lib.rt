@@ -165,3 +165,13 @@ pub fn print_frames(words: Words) -> Sent
     report(words, last, brought, t.whole, went(last, brought, t.whole));
     last
 }
+
+// The program: what the words ask for, and nothing where they are none.
+pub fn start() {
+    let w = words::asked(true);
+    if w.known {
+        print_frames(w);
+        return;
+    }
+    words::misuse(w, b"frames: its words are quiet and status\n");
+}

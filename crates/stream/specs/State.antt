@@ -1,6 +1,6 @@
 -- The state: fresh; refused and unchanged; and the error mark. The tests that several calls share, in their order.
 -- Assumes nothing.
-use Prim.Native.Nat.{ℕ}
+use Prim.Native.Nat.{ℕ, _-_}
 use mathlib.Core.Bool.{true, false, cond}
 use lib.Dec.{leb, eqb}
 use Rattle.stream.specs.declared.Stream.{Stream}
@@ -30,3 +30,7 @@ sized len bad go = cond (eqb len 8192) go (bad 31)
 -- 30: start above end, or end above 8,192
 abbrev pub inBounds : {A : Type 0} → Stream → (ℕ → A) → A → A
 inBounds s bad go = cond (leb (s .start) (s .end)) (cond (leb (s .end) 8192) go (bad 30)) (bad 30)
+
+-- the bytes of the messages that were answered: those read that do not stand in the window
+abbrev pub consumedOf : Stream → ℕ
+consumedOf s = cond (leb (s .start) (s .end)) (cond (leb (s .end - s .start) (s .«bytes_read»)) (s .«bytes_read» - (s .end - s .start)) 0) 0

@@ -2,7 +2,7 @@
 ghost use mathlib.Core.Path.{_≡_};
 ghost use Prim.Native.Nat.{_≤_};
 ghost use lib.ListN.{length};
-ghost use Rattle.stream.specs.State.{freshState, refuses, marks};
+ghost use Rattle.stream.specs.State.{freshState, refuses, marks, consumedOf};
 ghost use Rattle.stream.specs.Next.{nextOf};
 ghost use Rattle.stream.specs.Room.{moved, roomOf, roomBuffer};
 ghost use Rattle.stream.specs.Told.{toldOf, failedOf};
@@ -245,4 +245,22 @@ pub fn told_failed_of(s: Stream) -> Step
         return refused(s, 30);
     }
     marked(s, 11, 0)
+}
+
+// The bytes of the messages that were answered, which is where in the recording the window begins: all bytes read, less those in the window. 0 of a state that
+// no calls lead to.
+pub fn consumed(s: Stream) -> u64
+    ensures { λ r. ⌜ r ≡ consumedOf s ⌝ }
+{
+    let start = s.start;
+    let end = s.end;
+    let bytes_read = s.bytes_read;
+    if start > end {
+        return 0;
+    }
+    let held = (end - start) as u64;
+    if held > bytes_read {
+        return 0;
+    }
+    bytes_read - held
 }

@@ -1,4 +1,4 @@
 // Tallies standard input: a stored run of `tally` over an input that ends inside a message.
 fn main() {
-    tallying::print_tally();
+    tallying::start();
 }

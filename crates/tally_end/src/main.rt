@@ -1,4 +1,4 @@
 // Tallies standard input: a stored run of `tally` to a clean end.
 fn main() {
-    tallying::print_tally();
+    tallying::start();
 }

@@ -56,8 +56,8 @@ fn stopped_line(stop: u8, place: usize, out: &mut [u8], at: usize) -> usize
     text::number(place as u64, b'\n', out, c)
 }
 
-// The number of a refusal, and its place; 0 of any other answer.
-fn number_of(answer: Answer) -> u8
+// The number of a refusal; 0 of any other answer.
+pub fn number_of(answer: Answer) -> u8
     ensures { λ r. ⌜ r ≡ numberOf answer ⌝ }
 {
     match answer {
@@ -69,6 +69,7 @@ fn number_of(answer: Answer) -> u8
     }
 }
 
+// Its place; 0 of any other answer.
 fn place_of(answer: Answer) -> usize
     ensures { λ r. ⌜ r ≡ placeOf answer ⌝ }
 {

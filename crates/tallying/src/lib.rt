@@ -4,6 +4,7 @@ ghost use mathlib.Core.Path.{_≡_};
 ghost use Prim.Native.Nat.{_+_, _≤_};
 ghost use lib.ListN.{length};
 ghost use Rattle.text.specs.Decimal.{Wrote};
+ghost use Rattle.stream.specs.Meaning.{numberOf};
 ghost use Rattle.tally_lines.specs.Lines.{tallyOf};
 ghost use Rattle.plain.specs.Plain.{Table};
 ghost use Rattle.tallying.specs.Counts.{Counters, Skimmed, Drained};
@@ -16,6 +17,7 @@ use standard::Brought;
 use stream::Answer;
 use stream::Step;
 use stream::Stream;
+use words::Words;
 
 // Takes and counts the plain messages in front, with no jump by tag or side: such jumps are most of the time that `next_of` takes.
 fn skim(s0: Stream, b: &[u8], rows: &[u64; 256], count: &mut [u64]) -> Stream
@@ -158,8 +160,16 @@ fn put_tally(count: &[u64], messages: u64, answer: Answer, out: &mut [u8]) -> us
     tally_lines::tally(count, messages, answer, out)
 }
 
+// Says where the run stopped, and how it went.
+fn finish(words: Words, last: Step, number: u8, taken: bool)
+    requires { ⌜ number ≡ numberOf (last .answer) ⌝ }
+{
+    let state = last.state;
+    words::finish(words, b"tally", number, stream::consumed(state), taken);
+}
+
 // Runs the stream, and prints the counts. The answer tells of the reads and of the write. It is small: a larger one, with the last message, slows the loop.
-pub fn print_tally() -> Tally
+pub fn print_tally(words: Words) -> Tally
     ensures { λ r. ⌜ Finished r ⌝ }
 {
     let mut count = [0u64; 256];
@@ -170,8 +180,21 @@ pub fn print_tally() -> Tally
     let answer = step.answer;
     let n = put_tally(&count, state.messages, answer, &mut out);
     let tally = printed::write(&count, last, &out[..n]);
-    if !printed::taken(tally) {
-        io::write_all(2, b"tally: standard output cannot be written\n");
-    }
+    finish(
+        words,
+        step,
+        tally_lines::number_of(answer),
+        printed::taken(tally),
+    );
     tally
+}
+
+// The program: what the words ask for, and nothing where they are none.
+pub fn start() {
+    let w = words::asked(false);
+    if w.known {
+        print_tally(w);
+        return;
+    }
+    words::misuse(w, b"tally: its word is status\n");
 }

@@ -43,3 +43,7 @@ byteOf Clean = 48
 byteOf Found = 49
 byteOf Misused = 50
 byteOf Failed = 51
+
+-- a run of the stream that stopped with this number: 0 is a clean end, 11 a read that failed
+abbrev pub endingBy : ℕ → Bool → Ending
+endingBy number taken = cond taken (cond (eqb number 0) Clean (cond (eqb number 11) Failed Found)) Failed

@@ -2,7 +2,7 @@
 // all on standard output and standard error. Started with the word `status` it also says one byte on descriptor 3, as its last act, and who started
 // it makes a status of that.
 ghost use mathlib.Core.Path.{_≡_};
-ghost use Rattle.words.specs.Words.{equal, wordOf, unknownOf, withOf, byteOf};
+ghost use Rattle.words.specs.Words.{equal, wordOf, unknownOf, withOf, byteOf, endingBy};
 
 // What one word asks for: `quiet`, lines for what is refused only; `status`, the byte at the end; anything else is no word.
 pub enum Word {
@@ -139,4 +139,38 @@ pub fn say(w: Words, o: Ending) {
 pub fn misuse(w: Words, line: &[u8]) {
     io::write_all(2, line);
     say(w, Ending::Misused);
+}
+
+// How a run of the stream went, by the number that it stopped with and by whether all writes were taken.
+pub fn ending_by(number: u8, taken: bool) -> Ending
+    ensures { λ r. ⌜ r ≡ endingBy number taken ⌝ }
+{
+    if !taken {
+        return Ending::Failed;
+    }
+    if number == 0 {
+        return Ending::Clean;
+    }
+    if number == 11 {
+        return Ending::Failed;
+    }
+    Ending::Found
+}
+
+// The end of a program that runs the stream: on standard error, where in the recording it stopped, unless that is its clean end, and whether a write
+// failed; and the byte.
+pub fn finish(w: Words, name: &[u8], number: u8, offset: u64, taken: bool) {
+    if number != 0 {
+        io::write_all(2, name);
+        io::write_all(2, b": stopped with ");
+        io::print_decimal(2, number as u64);
+        io::write_all(2, b" at the message that begins at byte ");
+        io::print_decimal(2, offset);
+        io::write_all(2, b"\n");
+    }
+    if !taken {
+        io::write_all(2, name);
+        io::write_all(2, b": a write failed\n");
+    }
+    say(w, ending_by(number, taken));
 }

@@ -52,30 +52,24 @@ printed t w = record { start = _; none = record { all = refl; total = refl }; ta
 write-requires : tie.Need-write-requires
 write-requires c κs = printed (c .before .before .before .before .before .before .before .before .before .run .ensures) (c .before .before .before .put-tally .ensures)
 
+number-of-requires : tie.Need-number-of-requires
+number-of-requires c κs = search needs
+
 taken-requires : tie.Need-taken-requires
 taken-requires c κs = search needs
 
-slice-aggregate-write-all : tie.Need-slice-aggregate-write-all
-slice-aggregate-write-all c = search needs
-
-write-all-requires : tie.Need-write-all-requires
-write-all-requires c κs = search needs
-
-finished : (m : tie.After-write) → Finished (m .write .result)
-finished m = record {
-  last = _;
-  reads = m .write .ensures .0;
-  count = _;
-  text = _;
-  printed = printed (m .before .before .before .before .before .before .before .before .before .before .run .ensures) (m .before .before .before .before .put-tally .ensures);
-  bytes = m .write .ensures .1;
-}
+finish-requires : tie.Need-finish-requires
+finish-requires c κs = search needs
 
 returns : tie.Need-returns
-returns c = finished (c .before .before .before .before)
-
-returns-2 : tie.Need-returns-2
-returns-2 c = finished (c .before .before)
+returns c = record {
+  last = _;
+  reads = c .before .before .before .write .ensures .0;
+  count = _;
+  text = _;
+  printed = printed (c .before .before .before .before .before .before .before .before .before .before .before .before .before .run .ensures) (c .before .before .before .before .before .before .before .put-tally .ensures);
+  bytes = c .before .before .before .write .ensures .1;
+}
 
 pub print-tally-spec : {M : Type 1} → statement M
 print-tally-spec =
@@ -90,8 +84,7 @@ print-tally-spec =
     array-share-prefix-out
     slice-aggregate-write-2
     write-requires
+    number-of-requires
     taken-requires
-    slice-aggregate-write-all
-    write-all-requires
-    returns
-    returns-2)
+    finish-requires
+    returns)
