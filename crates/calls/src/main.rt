@@ -133,6 +133,10 @@ fn make(b: &mut [u8], fill: u64, place: usize, n: usize, list: &[u8], at: usize)
 
 // ---- the calls
 
+fn window_line(a: &[u8], out: &mut [u8], at: usize) -> usize {
+    answers::window(reader::parse_message(a), out, at)
+}
+
 // The first 52 bytes.
 fn held_of(b: &[u8]) -> [u8; 52] {
     let mut held = [0u8; 52];
@@ -158,6 +162,10 @@ fn step(v: [u64; 17], a: &[u8], b: &[u8]) -> Stepped {
     walk::step(w, a)
 }
 
+fn step_line(v: [u64; 17], a: &[u8], b: &[u8], out: &mut [u8], at: usize) -> usize {
+    answers::walked(step(v, a, b), out, at)
+}
+
 fn state_of(v: [u64; 17]) -> Stream {
     Stream {
         start: v[1] as usize,
@@ -179,12 +187,20 @@ fn next(lent: bool, s: Stream, a: &[u8]) -> Step {
     }
 }
 
+fn next_line(lent: bool, s: Stream, a: &[u8], out: &mut [u8], at: usize) -> usize {
+    answers::stepped(next(lent, s, a), out, at)
+}
+
 fn make_room(lent: bool, s: Stream, a: &mut [u8]) -> Step {
     if lent {
         lender::make_room(s, a)
     } else {
         stream::make_room_of(s, a)
     }
+}
+
+fn make_room_line(lent: bool, s: Stream, a: &mut [u8], out: &mut [u8], at: usize) -> usize {
+    answers::stepped(make_room(lent, s, a), out, at)
 }
 
 fn told(lent: bool, s: Stream, n: usize) -> Step {
@@ -195,12 +211,20 @@ fn told(lent: bool, s: Stream, n: usize) -> Step {
     }
 }
 
+fn told_line(lent: bool, s: Stream, n: usize, out: &mut [u8], at: usize) -> usize {
+    answers::stepped(told(lent, s, n), out, at)
+}
+
 fn told_failed(lent: bool, s: Stream) -> Step {
     if lent {
         lender::told_failed(s)
     } else {
         stream::told_failed_of(s)
     }
+}
+
+fn told_failed_line(lent: bool, s: Stream, out: &mut [u8], at: usize) -> usize {
+    answers::stepped(told_failed(lent, s), out, at)
 }
 
 fn played(lent: bool, s: Stream, a: &mut [u8], b: &[u8], at: usize, width: usize) -> Played {
@@ -211,6 +235,14 @@ fn played(lent: bool, s: Stream, a: &mut [u8], b: &[u8], at: usize, width: usize
     }
 }
 
+fn play_line(lent: bool, v: [u64; 17], a: &mut [u8], b: &[u8], out: &mut [u8], at: usize) -> usize {
+    answers::played(
+        played(lent, state_of(v), a, b, v[7] as usize, v[8] as usize),
+        out,
+        at,
+    )
+}
+
 // ---- the writer
 
 fn write(v: [u64; 17], a: &mut [u8], b: &[u8], out: &mut [u8], at: usize) -> usize {
@@ -218,11 +250,8 @@ fn write(v: [u64; 17], a: &mut [u8], b: &[u8], out: &mut [u8], at: usize) -> usi
     let Window::Message(m, _) = w else {
         return answers::word(b" no record{.", out, at);
     };
-    let m1 = changes::changed(m, v[1], v[2]);
-    let m2 = changes::changed(m1, v[3], v[4]);
-    let m3 = changes::changed(m2, v[5], v[6]);
-    let m4 = changes::changed(m3, v[7], v[8]);
-    answers::wrote(writer::write(m4, a), out, at)
+    let changed = changes::changed(m, v[1], v[2], v[3], v[4], v[5], v[6], v[7], v[8]);
+    answers::wrote(writer::write(changed, a), out, at)
 }
 
 // ---- the program
@@ -257,22 +286,22 @@ fn stream_call(
     let s = state_of(v);
     if which == NEXT {
         let at = answers::word(b"next{.", out, from);
-        return answers::stepped(next(lent, s, a), out, at);
+        return next_line(lent, s, a, out, at);
     }
     if which == MAKE_ROOM {
         let at = answers::word(b"make_room{.", out, from);
-        return answers::stepped(make_room(lent, s, a), out, at);
+        return make_room_line(lent, s, a, out, at);
     }
     if which == TOLD {
         let at = answers::word(b"told{.", out, from);
-        return answers::stepped(told(lent, s, v[7] as usize), out, at);
+        return told_line(lent, s, v[7] as usize, out, at);
     }
     if which == TOLD_FAILED {
         let at = answers::word(b"told_failed{.", out, from);
-        return answers::stepped(told_failed(lent, s), out, at);
+        return told_failed_line(lent, s, out, at);
     }
     let at = answers::word(b"play{.", out, from);
-    answers::played(played(lent, s, a, b, v[7] as usize, v[8] as usize), out, at)
+    play_line(lent, v, a, b, out, at)
 }
 
 // Whether the call is one of the stream's, which are played over a lent state too.
@@ -285,11 +314,11 @@ fn call(lent: bool, v: [u64; 17], a: &mut [u8], b: &[u8], out: &mut [u8]) -> usi
     let which = v[0];
     if which == WINDOW {
         let at = answers::word(b"window{.", out, 0);
-        return answers::window(reader::parse_message(a), out, at);
+        return window_line(a, out, at);
     }
     if which == STEP {
         let at = answers::word(b"step{.", out, 0);
-        return answers::walked(step(v, a, b), out, at);
+        return step_line(v, a, b, out, at);
     }
     if which == WRITE {
         let at = answers::word(b"write{.", out, 0);

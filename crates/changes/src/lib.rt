@@ -147,7 +147,7 @@ fn body_of(b: Body, what: u64, to: u64) -> Body {
 }
 
 // A record with one thing changed: what, and to which value. What its body has no place for changes nothing.
-pub fn changed(m: Message, what: u64, to: u64) -> Message {
+fn once(m: Message, what: u64, to: u64) -> Message {
     let mut tag = m.tag;
     let mut timestamp = m.timestamp;
     if what == TAG {
@@ -164,4 +164,23 @@ pub fn changed(m: Message, what: u64, to: u64) -> Message {
         timestamp,
         body: body_of(body, what, to),
     }
+}
+
+fn twice(m: Message, what: u64, to: u64, what2: u64, to2: u64) -> Message {
+    once(once(m, what, to), what2, to2)
+}
+
+// A record with four things changed, one after the other: what, and to which value. What its body has no place for changes nothing.
+pub fn changed(
+    m: Message,
+    what: u64,
+    to: u64,
+    what2: u64,
+    to2: u64,
+    what3: u64,
+    to3: u64,
+    what4: u64,
+    to4: u64,
+) -> Message {
+    twice(twice(m, what, to, what2, to2), what3, to3, what4, to4)
 }
