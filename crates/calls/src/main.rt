@@ -5,10 +5,6 @@
 ghost use mathlib.Core.Path.{_≡_};
 ghost use Prim.Native.Nat.{_≤_};
 ghost use lib.ListN.{length};
-use play::Played;
-use reader::Window;
-use stream::Step;
-use stream::Stream;
 use walk::Stepped;
 use walk::Walk;
 
@@ -166,94 +162,6 @@ fn step_line(v: [u64; 17], a: &[u8], b: &[u8], out: &mut [u8], at: usize) -> usi
     answers::walked(step(v, a, b), out, at)
 }
 
-fn state_of(v: [u64; 17]) -> Stream {
-    Stream {
-        start: v[1] as usize,
-        end: v[2] as usize,
-        bytes_read: v[3],
-        read_calls: v[4],
-        messages: v[5],
-        error: v[6] != 0,
-    }
-}
-
-// Each call of the stream, by value or over a lent state.
-
-fn next(lent: bool, s: Stream, a: &[u8]) -> Step {
-    if lent {
-        lender::next(s, a)
-    } else {
-        stream::next_of(s, a)
-    }
-}
-
-fn next_line(lent: bool, s: Stream, a: &[u8], out: &mut [u8], at: usize) -> usize {
-    answers::stepped(next(lent, s, a), out, at)
-}
-
-fn make_room(lent: bool, s: Stream, a: &mut [u8]) -> Step {
-    if lent {
-        lender::make_room(s, a)
-    } else {
-        stream::make_room_of(s, a)
-    }
-}
-
-fn make_room_line(lent: bool, s: Stream, a: &mut [u8], out: &mut [u8], at: usize) -> usize {
-    answers::stepped(make_room(lent, s, a), out, at)
-}
-
-fn told(lent: bool, s: Stream, n: usize) -> Step {
-    if lent {
-        lender::told(s, n)
-    } else {
-        stream::told_of(s, n)
-    }
-}
-
-fn told_line(lent: bool, s: Stream, n: usize, out: &mut [u8], at: usize) -> usize {
-    answers::stepped(told(lent, s, n), out, at)
-}
-
-fn told_failed(lent: bool, s: Stream) -> Step {
-    if lent {
-        lender::told_failed(s)
-    } else {
-        stream::told_failed_of(s)
-    }
-}
-
-fn told_failed_line(lent: bool, s: Stream, out: &mut [u8], at: usize) -> usize {
-    answers::stepped(told_failed(lent, s), out, at)
-}
-
-fn played(lent: bool, s: Stream, a: &mut [u8], b: &[u8], at: usize, width: usize) -> Played {
-    if lent {
-        lender::play(s, a, b, at, width)
-    } else {
-        play::play(s, a, b, at, width)
-    }
-}
-
-fn play_line(lent: bool, v: [u64; 17], a: &mut [u8], b: &[u8], out: &mut [u8], at: usize) -> usize {
-    answers::played(
-        played(lent, state_of(v), a, b, v[7] as usize, v[8] as usize),
-        out,
-        at,
-    )
-}
-
-// ---- the writer
-
-fn write(v: [u64; 17], a: &mut [u8], b: &[u8], out: &mut [u8], at: usize) -> usize {
-    let w = reader::parse_message(b);
-    let Window::Message(m, _) = w else {
-        return answers::word(b" no record{.", out, at);
-    };
-    let changed = changes::changed(m, v[1], v[2], v[3], v[4], v[5], v[6], v[7], v[8]);
-    answers::wrote(writer::write(changed, a), out, at)
-}
-
 // ---- the program
 
 // The calls' numbers.
@@ -261,53 +169,7 @@ const WINDOW: u64 = 1;
 
 const STEP: u64 = 2;
 
-const NEXT: u64 = 3;
-
-const MAKE_ROOM: u64 = 4;
-
-const TOLD: u64 = 5;
-
-const TOLD_FAILED: u64 = 6;
-
-const PLAY: u64 = 7;
-
 const WRITE: u64 = 8;
-
-// A call of the stream, and its line.
-fn stream_call(
-    lent: bool,
-    v: [u64; 17],
-    a: &mut [u8],
-    b: &[u8],
-    out: &mut [u8],
-    from: usize,
-) -> usize {
-    let which = v[0];
-    let s = state_of(v);
-    if which == NEXT {
-        let at = answers::word(b"next{.", out, from);
-        return next_line(lent, s, a, out, at);
-    }
-    if which == MAKE_ROOM {
-        let at = answers::word(b"make_room{.", out, from);
-        return make_room_line(lent, s, a, out, at);
-    }
-    if which == TOLD {
-        let at = answers::word(b"told{.", out, from);
-        return told_line(lent, s, v[7] as usize, out, at);
-    }
-    if which == TOLD_FAILED {
-        let at = answers::word(b"told_failed{.", out, from);
-        return told_failed_line(lent, s, out, at);
-    }
-    let at = answers::word(b"play{.", out, from);
-    play_line(lent, v, a, b, out, at)
-}
-
-// Whether the call is one of the stream's, which are played over a lent state too.
-fn of_stream(which: u64) -> bool {
-    if which < NEXT { false } else { which <= PLAY }
-}
 
 // A call and its line; 0 where no call has this number.
 fn call(lent: bool, v: [u64; 17], a: &mut [u8], b: &[u8], out: &mut [u8]) -> usize {
@@ -322,16 +184,16 @@ fn call(lent: bool, v: [u64; 17], a: &mut [u8], b: &[u8], out: &mut [u8]) -> usi
     }
     if which == WRITE {
         let at = answers::word(b"write{.", out, 0);
-        return write(v, a, b, out, at);
+        return changes::write(v, a, b, out, at);
     }
-    if !of_stream(which) {
+    if !calling::of_stream(which) {
         return 0;
     }
     if lent {
         let from = answers::word(b"lent {.", out, 0);
-        return stream_call(true, v, a, b, out, from);
+        return calling::stream_call(true, v, a, b, out, from);
     }
-    stream_call(false, v, a, b, out, 0)
+    calling::stream_call(false, v, a, b, out, 0)
 }
 
 // Hands what stands before `end` to the write calls, and says whether they took it.
@@ -378,7 +240,7 @@ fn turn(list: &[u8], at: usize, lent: bool, room_a: &mut [u8], room_b: &mut [u8]
     Went {
         next,
         more: line(lent, v, a, b),
-        lends: of_stream(v[0]),
+        lends: calling::of_stream(v[0]),
     }
 }
 

@@ -1,6 +1,7 @@
-// Records with one thing changed, so that the writer can be given what no window has: a tag that is not the body's, a timestamp that is too large, a text that is
-// not UTF-8, an imbalance record with the cross Intraday. What the function does is held by the stored run of `calls`.
+// The writer's calls: records are changed first, so that the writer can be given what no window has: a tag that is not the body's, a timestamp that is too large, a text that is
+// not UTF-8, an imbalance record with the cross Intraday. What the functions do is held by the stored run of `calls`.
 use codes::CrossType;
+use reader::Window;
 use records::AddOrder;
 use records::Body;
 use records::CrossTrade;
@@ -171,7 +172,7 @@ fn twice(m: Message, what: u64, to: u64, what2: u64, to2: u64) -> Message {
 }
 
 // A record with four things changed, one after the other: what, and to which value. What its body has no place for changes nothing.
-pub fn changed(
+fn changed(
     m: Message,
     what: u64,
     to: u64,
@@ -183,4 +184,14 @@ pub fn changed(
     to4: u64,
 ) -> Message {
     twice(twice(m, what, to, what2, to2), what3, to3, what4, to4)
+}
+
+// Writes the record of B's bytes, with the changes that a call's numbers say, into A, and puts the line: the place behind it is answered.
+pub fn write(v: [u64; 17], a: &mut [u8], b: &[u8], out: &mut [u8], at: usize) -> usize {
+    let w = reader::parse_message(b);
+    let Window::Message(m, _) = w else {
+        return answers::word(b" no record{.", out, at);
+    };
+    let other = changed(m, v[1], v[2], v[3], v[4], v[5], v[6], v[7], v[8]);
+    answers::wrote(writer::write(other, a), out, at)
 }
