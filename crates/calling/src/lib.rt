@@ -1,10 +1,47 @@
-// The stream's calls, by value and over a lent state: each from the numbers that say its state, and its line put at a place of a lent buffer. What the functions do is held
-// by the stored run of `calls`, and its form is said there.
+// The calls of the reader, the walk and the stream, the stream's by value and over a lent state: each is made from the numbers of a call, and its line is put at a place
+// of a lent buffer. What the functions do is held by the stored run of `calls`; oracle/calls says the numbers.
 use play::Played;
 use stream::Step;
 use stream::Stream;
+use walk::Stepped;
+use walk::Walk;
 
-// The calls' numbers.
+// A window is read, and its line put: here and below the place behind the line is answered.
+pub fn window(a: &[u8], out: &mut [u8], at: usize) -> usize {
+    answers::window(reader::parse_message(a), out, at)
+}
+
+// The first 52 bytes.
+fn held_of(b: &[u8]) -> [u8; 52] {
+    let mut held = [0u8; 52];
+    let mut i = 0;
+    while i < 52 {
+        if i < b.len() {
+            held[i] = b[i];
+        }
+        i += 1;
+    }
+    held
+}
+
+fn stepped(v: [u64; 17], a: &[u8], b: &[u8]) -> Stepped {
+    let held = held_of(b);
+    let w = Walk {
+        offset: v[1],
+        seen: v[2] as usize,
+        held,
+        frames: v[3],
+        accepted: v[4],
+    };
+    walk::step(w, a)
+}
+
+// A step of the walk, from the state that a call's numbers and B say, over A.
+pub fn step(v: [u64; 17], a: &[u8], b: &[u8], out: &mut [u8], at: usize) -> usize {
+    answers::walked(stepped(v, a, b), out, at)
+}
+
+// The numbers of the stream's calls.
 const NEXT: u64 = 3;
 
 const MAKE_ROOM: u64 = 4;

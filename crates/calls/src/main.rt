@@ -5,8 +5,6 @@
 ghost use mathlib.Core.Path.{_≡_};
 ghost use Prim.Native.Nat.{_≤_};
 ghost use lib.ListN.{length};
-use walk::Stepped;
-use walk::Walk;
 
 // ---- the list
 
@@ -127,41 +125,6 @@ fn make(b: &mut [u8], fill: u64, place: usize, n: usize, list: &[u8], at: usize)
     at + least(n, list.len() - at)
 }
 
-// ---- the calls
-
-fn window_line(a: &[u8], out: &mut [u8], at: usize) -> usize {
-    answers::window(reader::parse_message(a), out, at)
-}
-
-// The first 52 bytes.
-fn held_of(b: &[u8]) -> [u8; 52] {
-    let mut held = [0u8; 52];
-    let mut i = 0;
-    while i < 52 {
-        if i < b.len() {
-            held[i] = b[i];
-        }
-        i += 1;
-    }
-    held
-}
-
-fn step(v: [u64; 17], a: &[u8], b: &[u8]) -> Stepped {
-    let held = held_of(b);
-    let w = Walk {
-        offset: v[1],
-        seen: v[2] as usize,
-        held,
-        frames: v[3],
-        accepted: v[4],
-    };
-    walk::step(w, a)
-}
-
-fn step_line(v: [u64; 17], a: &[u8], b: &[u8], out: &mut [u8], at: usize) -> usize {
-    answers::walked(step(v, a, b), out, at)
-}
-
 // ---- the program
 
 // The calls' numbers.
@@ -176,11 +139,11 @@ fn call(lent: bool, v: [u64; 17], a: &mut [u8], b: &[u8], out: &mut [u8]) -> usi
     let which = v[0];
     if which == WINDOW {
         let at = answers::word(b"window{.", out, 0);
-        return window_line(a, out, at);
+        return calling::window(a, out, at);
     }
     if which == STEP {
         let at = answers::word(b"step{.", out, 0);
-        return step_line(v, a, b, out, at);
+        return calling::step(v, a, b, out, at);
     }
     if which == WRITE {
         let at = answers::word(b"write{.", out, 0);

@@ -1,9 +1,9 @@
--- `calls::held_of` meets its contract.
+-- `calling::held_of` meets its contract.
 -- Assumes nothing.
 use Prim.Native.Nat.{_-_}
 use borrow.Author.Needs.{needs}
-use Rattle.calls.proofs.held_of.Statement.{statement}
-use Rattle.calls.proofs.held_of.Tie as tie
+use Rattle.calling.proofs.held_of.Statement.{statement}
+use Rattle.calling.proofs.held_of.Tie as tie
 
 abbrev Inv-loop : tie.InvT-loop
 Inv-loop b held₀ i₀ held i = Unit {0}
