@@ -34,7 +34,7 @@ pub fn sum(b: &[u8]) -> u64 {
 // A layout that has no values.
 pub fn word(layout: &[u8], out: &mut [u8], at: usize) -> usize {
     let none = [0u64; 1];
-    layouts::put(layout, 0, &none[..0], out, at)
+    templates::put(layout, 0, &none[..0], out, at)
 }
 
 // What the stream answered.
@@ -44,7 +44,7 @@ fn answered(f: Flat, out: &mut [u8], at: usize) -> usize {
         return word(b" nothing{.", out, at);
     }
     if f.kind == flat::REFUSED {
-        return layouts::put(b" refused {n} {n}{.", 0, &[v[0], v[1]], out, at);
+        return templates::put(b" refused {n} {n}{.", 0, &[v[0], v[1]], out, at);
     }
     if f.kind == flat::WANTS {
         return word(b" wants{.", out, at);
@@ -52,14 +52,14 @@ fn answered(f: Flat, out: &mut [u8], at: usize) -> usize {
     if f.kind == flat::READY {
         return word(b" ready{.", out, at);
     }
-    let next = layouts::put(
+    let next = templates::put(
         b" message {n} {n} {n} {n}{.",
         0,
         &[v[0], v[1], v[2], v[3]],
         out,
         at,
     );
-    layouts::put(
+    templates::put(
         b" {n} {n} {n} {n} {n} {n} {n} {n} {n} {n} {n} {n} {n} {n} {n}{.",
         0,
         &[
@@ -107,7 +107,7 @@ fn state(s: Stream, out: &mut [u8], at: usize) -> usize {
         s.messages,
         flag(s.error),
     ];
-    layouts::put(b" state {n} {n} {n} {n} {n} {n}{.", 0, &v, out, at)
+    templates::put(b" state {n} {n} {n} {n} {n} {n}{.", 0, &v, out, at)
 }
 
 // What a call of the stream answered, and the state behind it.
@@ -122,7 +122,7 @@ pub fn played(p: Played, out: &mut [u8], at: usize) -> usize {
     let s = p.state;
     let answer = p.answer;
     let next = answered(flat::flatten(Step { state: s, answer }), out, at);
-    let then = layouts::put(b" at {n}{.", 0, &[p.at as u64], out, next);
+    let then = templates::put(b" at {n}{.", 0, &[p.at as u64], out, next);
     state(s, out, then)
 }
 
@@ -131,10 +131,10 @@ pub fn window(w: Window, out: &mut [u8], at: usize) -> usize {
     match w {
         Window::Message(m, used) => {
             let next = message(m, out, at);
-            layouts::put(b" used {n}{.", 0, &[used as u64], out, next)
+            templates::put(b" used {n}{.", 0, &[used as u64], out, next)
         }
         Window::Incomplete => word(b" incomplete{.", out, at),
-        Window::Refused(number, place) => layouts::put(
+        Window::Refused(number, place) => templates::put(
             b" refused {n} {n}{.",
             0,
             &[number as u64, place as u64],
@@ -148,7 +148,7 @@ pub fn window(w: Window, out: &mut [u8], at: usize) -> usize {
 fn verdict(what: Verdict, out: &mut [u8], at: usize) -> usize {
     match what {
         Verdict::Accepted(m) => message(m, out, at),
-        Verdict::Bad(number, place) => layouts::put(
+        Verdict::Bad(number, place) => templates::put(
             b" bad {n} {n}{.",
             0,
             &[number as u64, place as u64],
@@ -162,11 +162,11 @@ fn verdict(what: Verdict, out: &mut [u8], at: usize) -> usize {
 fn ended(answer: walk::Answer, out: &mut [u8], at: usize) -> usize {
     match answer {
         walk::Answer::Frame { offset, size, what } => {
-            let next = layouts::put(b" frame {n} {n}{.", 0, &[offset, size as u64], out, at);
+            let next = templates::put(b" frame {n} {n}{.", 0, &[offset, size as u64], out, at);
             verdict(what, out, next)
         }
         walk::Answer::WantsMore => word(b" more{.", out, at),
-        walk::Answer::Refused(number) => layouts::put(
+        walk::Answer::Refused(number) => templates::put(
             b" refused {n}{.",
             0,
             &[number as u64],
@@ -190,7 +190,7 @@ pub fn walked(r: Stepped, out: &mut [u8], at: usize) -> usize {
         s.accepted,
         sum(&held),
     ];
-    layouts::put(
+    templates::put(
         b" used {n} state {n} {n} {n} {n} {n}{.",
         0,
         &numbers,
@@ -202,7 +202,7 @@ pub fn walked(r: Stepped, out: &mut [u8], at: usize) -> usize {
 // What the writer answered.
 pub fn wrote(w: Written, out: &mut [u8], at: usize) -> usize {
     match w {
-        Written::Done(n) => layouts::put(b" done {n}{.", 0, &[n as u64], out, at),
-        Written::Refused(number) => layouts::put(b" refused {n}{.", 0, &[number as u64], out, at),
+        Written::Done(n) => templates::put(b" done {n}{.", 0, &[n as u64], out, at),
+        Written::Refused(number) => templates::put(b" refused {n}{.", 0, &[number as u64], out, at),
     }
 }

@@ -33,7 +33,7 @@ fn stepped(v: [u64; 17], a: &[u8], b: &[u8]) -> Stepped {
         frames: v[3],
         accepted: v[4],
     };
-    walk::step(w, a)
+    walking::step(w, a)
 }
 
 // A step of the walk, from the state that a call's numbers and B say, over A.

@@ -173,7 +173,7 @@ fn line(lent: bool, v: [u64; 17], a: &mut [u8], b: &[u8]) -> bool {
     if at == 0 {
         return false;
     }
-    let end = layouts::put(b" sum {n}\n{.", 0, &[answers::sum(a)], &mut out, at);
+    let end = templates::put(b" sum {n}\n{.", 0, &[answers::sum(a)], &mut out, at);
     if end > 4096 {
         return false;
     }

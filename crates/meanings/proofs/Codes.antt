@@ -36,80 +36,80 @@ named : (f : ℕ → ℕ) (set : List ℕ) → T (agree f (λ b. b) set) → Nam
 named f set t = on-set f (λ b. b) set t
 
 pub event-code : Named (λ b. eventByte (eventFrom b)) event
-unfolding eventByte eventFrom event
+unfolding eventFrom event
 event-code = named (λ b. eventByte (eventFrom b)) event tt
 
 pub category-code : Named (λ b. categoryByte (categoryFrom b)) category
-unfolding categoryByte categoryFrom category
+unfolding categoryFrom category
 category-code = named (λ b. categoryByte (categoryFrom b)) category tt
 
 pub status-code : Named (λ b. statusByte (statusFrom b)) status
-unfolding statusByte statusFrom status
+unfolding statusFrom status
 status-code = named (λ b. statusByte (statusFrom b)) status tt
 
 pub class-code : Named (λ b. classByte (classFrom b)) class
-unfolding classByte classFrom class
+unfolding classFrom class
 class-code = named (λ b. classByte (classFrom b)) class tt
 
 pub tier-code : Named (λ b. tierByte (tierFrom b)) tier
-unfolding tierByte tierFrom tier
+unfolding tierFrom tier
 tier-code = named (λ b. tierByte (tierFrom b)) tier tt
 
 pub makerMode-code : Named (λ b. makerModeByte (makerModeFrom b)) makerMode
-unfolding makerModeByte makerModeFrom makerMode
+unfolding makerModeFrom makerMode
 makerMode-code = named (λ b. makerModeByte (makerModeFrom b)) makerMode tt
 
 pub participantState-code : Named (λ b. participantStateByte (participantStateFrom b)) participantState
-unfolding participantStateByte participantStateFrom participantState
+unfolding participantStateFrom participantState
 participantState-code = named (λ b. participantStateByte (participantStateFrom b)) participantState tt
 
 pub action-code : Named (λ b. actionByte (actionFrom b)) action
-unfolding actionByte actionFrom action
+unfolding actionFrom action
 action-code = named (λ b. actionByte (actionFrom b)) action tt
 
 pub tradingState-code : Named (λ b. tradingStateByte (tradingStateFrom b)) tradingState
-unfolding tradingStateByte tradingStateFrom tradingState
+unfolding tradingStateFrom tradingState
 tradingState-code = named (λ b. tradingStateByte (tradingStateFrom b)) tradingState tt
 
 pub side-code : Named (λ b. sideByte (sideFrom b)) side
-unfolding sideByte sideFrom side
+unfolding sideFrom side
 side-code = named (λ b. sideByte (sideFrom b)) side tt
 
 pub direction-code : Named (λ b. directionByte (directionFrom b)) direction
-unfolding directionByte directionFrom direction
+unfolding directionFrom direction
 direction-code = named (λ b. directionByte (directionFrom b)) direction tt
 
 pub cross-code : Named (λ b. crossByte (crossFrom b)) cross
-unfolding crossByte crossFrom cross
+unfolding crossFrom cross
 cross-code = named (λ b. crossByte (crossFrom b)) cross tt
 
 pub qualifier-code : Named (λ b. qualifierByte (qualifierFrom b)) qualifier
-unfolding qualifierByte qualifierFrom qualifier
+unfolding qualifierFrom qualifier
 qualifier-code = named (λ b. qualifierByte (qualifierFrom b)) qualifier tt
 
 pub level-code : Named (λ b. levelByte (levelFrom b)) level
-unfolding levelByte levelFrom level
+unfolding levelFrom level
 level-code = named (λ b. levelByte (levelFrom b)) level tt
 
 pub interest-code : Named (λ b. interestByte (interestFrom b)) interest
-unfolding interestByte interestFrom interest
+unfolding interestFrom interest
 interest-code = named (λ b. interestByte (interestFrom b)) interest tt
 
 pub flag-code : Named (λ b. flagByte (flagFrom b)) flag
-unfolding flagByte flagFrom flag
+unfolding flagFrom flag
 flag-code = named (λ b. flagByte (flagFrom b)) flag tt
 
 -- those of I are among the crosses
 pub imbalance-code : Named (λ b. crossByte (crossFrom b)) imbalanceCross
-unfolding crossByte crossFrom imbalanceCross
+unfolding crossFrom imbalanceCross
 imbalance-code = named (λ b. crossByte (crossFrom b)) imbalanceCross tt
 
 pub yesNo-code : Named (λ b. yesNoByte (eqb b 'Y')) yesNo
-unfolding yesNoByte yesNo
+unfolding yesNo
 yesNo-code = named (λ b. yesNoByte (eqb b 'Y')) yesNo tt
 
 pub authenticity-code : Named (λ b. authenticityByte (eqb b 'P')) authenticity
-unfolding authenticityByte authenticity
+unfolding authenticity
 authenticity-code = named (λ b. authenticityByte (eqb b 'P')) authenticity tt
 
 pub subtype-code : Named (λ b. subtypeByte (subtypeFrom b)) subtypes
@@ -118,5 +118,5 @@ subtype-code = named (λ b. subtypeByte (subtypeFrom b)) subtypes tt
 
 -- of the ETP codes M reads as yes
 pub etp-code : (x : ℕ) → member x etpFlag ≡ true → flagByte (flagFrom (asYes x)) ≡ asYes x
-unfolding flagByte flagFrom etpFlag
+unfolding flagFrom etpFlag
 etp-code = on-set (λ b. flagByte (flagFrom (asYes b))) asYes etpFlag tt

@@ -1,18 +1,21 @@
 // Reads a recording from standard input, writes every message back and compares: a line for each, its tag and `same` or `other`; then how many there
-// were, how many were the same, and how many bytes of the window are left: of a message cut short, or of the first one that is refused, where it
-// stops. Bytes are taken one by one: each strict prefix of a message is incomplete, so the window is always one message. A write that fails ends
-// the program, with a word on standard error.
+// were, how many were the same, and how many bytes were read of a message that is none: cut short, or refused. There it stops, and says on standard error
+// where in the recording that message begins. Bytes are taken one by one: each strict prefix of a message is incomplete, so the window is always one
+// message. A read or a write that fails ends the program, with a word on standard error.
 use reader::Window;
 use records::Message;
 use writer::Written;
 
-// The window and how many bytes of it are there; how many messages there were, and how many the same; whether to read on; whether no write failed.
+// The window and how many bytes of it are there; where in the recording it begins; how many messages there were, and how many the same; whether to read
+// on, and the number of what it stopped with, 0 for the recording's end; whether no write failed.
 struct State {
     window: [u8; 52],
     have: usize,
+    offset: u64,
     messages: u64,
     same: u64,
     stopped: bool,
+    number: u8,
     written: bool,
 }
 
@@ -53,6 +56,15 @@ fn line(tag: u8, same: bool) -> bool {
     }
 }
 
+// A place in the recording, n bytes on; 2^64 - 1 where that is more.
+fn past(offset: u64, n: usize) -> u64 {
+    let more = n as u64;
+    if more > u64::MAX - offset {
+        return u64::MAX;
+    }
+    offset + more
+}
+
 // A message of n bytes is written back, compared and counted, and the window is empty again.
 fn counted(s: State, m: Message, n: usize) -> State {
     let window = s.window;
@@ -63,9 +75,11 @@ fn counted(s: State, m: Message, n: usize) -> State {
         return State {
             window,
             have: 0,
+            offset: s.offset,
             messages: s.messages,
             same: s.same,
             stopped: true,
+            number: 33,
             written,
         };
     }
@@ -78,23 +92,36 @@ fn counted(s: State, m: Message, n: usize) -> State {
     State {
         window,
         have: 0,
+        offset: past(s.offset, n),
         messages: s.messages + 1,
         same: alike,
         stopped: !written,
+        number: 0,
         written,
     }
 }
 
-fn halted(s: State) -> State {
+// It stops, with a number.
+fn halted(s: State, number: u8) -> State {
     let window = s.window;
     State {
         window,
         have: s.have,
+        offset: s.offset,
         messages: s.messages,
         same: s.same,
         stopped: true,
+        number,
         written: s.written,
     }
+}
+
+// The input ended: at a message's end, or inside one.
+fn ended(s: State) -> State {
+    if s.have > 0 {
+        return halted(s, 10);
+    }
+    halted(s, 0)
 }
 
 // One byte more.
@@ -102,22 +129,24 @@ fn fed(s: State, b: u8) -> State {
     let mut window = s.window;
     let have = s.have;
     if have >= 52 {
-        return halted(s);
+        return halted(s, 10);
     }
     window[have] = b;
     let t = State {
         window,
         have: have + 1,
+        offset: s.offset,
         messages: s.messages,
         same: s.same,
         stopped: false,
+        number: 0,
         written: s.written,
     };
     let r = reader::parse_message(&window[..have + 1]);
     match r {
         Window::Message(m, n) => counted(t, m, n),
         Window::Incomplete => t,
-        Window::Refused(_, _) => halted(t),
+        Window::Refused(number, _) => halted(t, number),
     }
 }
 
@@ -140,9 +169,12 @@ fn block(s: State, bytes: &[u8]) -> State {
 fn read_some(s: State) -> State {
     let mut buf = [0u8; 4096];
     let b = standard::read(standard::unread(), &mut buf);
+    if standard::failed(b) {
+        return halted(s, 11);
+    }
     let n = standard::bytes(b);
     if n == 0 {
-        return halted(s);
+        return ended(s);
     }
     block(s, &buf[..n])
 }
@@ -152,9 +184,11 @@ fn read_all() -> State {
     let mut state = State {
         window: [0u8; 52],
         have: 0,
+        offset: 0,
         messages: 0,
         same: 0,
         stopped: false,
+        number: 0,
         written: true,
     };
     let mut turns = u64::MAX;
@@ -188,9 +222,12 @@ fn totals(s: State) -> bool {
 }
 
 fn main() {
-    let s = read_all();
-    if s.written && totals(s) {
+    let w = words::asked(false);
+    if !w.known {
+        words::misuse(w, b"rewrite: its word is status\n");
         return;
     }
-    io::write_all(2, b"rewrite: a write failed\n");
+    let s = read_all();
+    let taken = s.written && totals(s);
+    words::finish(w, b"rewrite", s.number, s.offset, taken);
 }

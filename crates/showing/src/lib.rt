@@ -17,6 +17,7 @@ use flat::Flat;
 use reads::Place;
 use reads::Read;
 use stream::Stream;
+use words::Words;
 
 // The header of a message's line.
 fn header(v: &[u64], out: &mut [u8], at: usize) -> usize
@@ -315,22 +316,6 @@ fn turns(
     c
 }
 
-// The bytes of the messages answered: those read that do not stand in the window. A state that calls lead to has its window in order, and
-// no longer than the bytes read.
-fn consumed(s: Stream) -> u64 {
-    let start = s.start;
-    let end = s.end;
-    if start > end {
-        return 0;
-    }
-    let left = end - start;
-    let held = left as u64;
-    if held > s.bytes_read {
-        return 0;
-    }
-    s.bytes_read - held
-}
-
 // What `show` prints last; nothing more has number and place 0.
 fn closing(f: Flat, out: &mut [u8], at: usize) -> usize
     requires { ⌜ at ≤ length (now out) ⌝ }
@@ -341,7 +326,7 @@ fn closing(f: Flat, out: &mut [u8], at: usize) -> usize
     templates::put(
         b"messages {n}\nconsumed {n}\nstopped {n} {n}\n{.",
         0,
-        &[s.messages, consumed(s), v[0], v[1]],
+        &[s.messages, stream::consumed(s), v[0], v[1]],
         out,
         at,
     )
@@ -352,25 +337,50 @@ fn end_line(s: Stream, out: &mut [u8], at: usize) -> usize
     requires { ⌜ at ≤ length (now out) ⌝ }
     ensures { λ r. ⌜ r ≤ length (now (out .entry)) ⌝ }
 {
-    templates::put(b"end {n} {n}\n{.", 0, &[s.messages, consumed(s)], out, at)
+    templates::put(
+        b"end {n} {n}\n{.",
+        0,
+        &[s.messages, stream::consumed(s)],
+        out,
+        at,
+    )
 }
 
-// Shows standard input, and says whether no write failed.
-fn show_all(table: &[u8], starts: &[usize], out: &mut [u8]) -> bool
-    requires { ⌜ 6144 ≤ length (now out) ⌝ }
+// The last lines, behind what is in the output buffer; whether all was written.
+fn last_lines(f: Flat, written: bool, out: &mut [u8], at: usize) -> bool
+    requires { ⌜ (6144 ≤ length (now out)) × (at ≤ length (now out)) ⌝ }
 {
-    let none = [0u8; 1];
-    let c = turns(true, &none, 0, table, starts, out, 0);
-    let f = c.f;
-    if !c.written {
+    if !written {
         return false;
     }
-    let r = line_room(out, c.at);
+    let r = line_room(out, at);
     if !r.written {
         return false;
     }
     let n = closing(f, out, r.at);
     flushed(out, n)
+}
+
+// The number that a run stopped with: a refusal's, and 0 at a clean end.
+fn number_of(f: Flat) -> u8 {
+    let v = f.v;
+    let n = v[0];
+    if n > 255 {
+        return 255;
+    }
+    n as u8
+}
+
+// Shows standard input, and says how it went.
+fn show_all(words: Words, table: &[u8], starts: &[usize], out: &mut [u8])
+    requires { ⌜ 6144 ≤ length (now out) ⌝ }
+{
+    let none = [0u8; 1];
+    let c = turns(true, &none, 0, table, starts, out, 0);
+    let f = c.f;
+    let state = f.state;
+    let taken = last_lines(f, c.written, out, c.at);
+    words::finish(words, b"show", number_of(f), stream::consumed(state), taken);
 }
 
 // Cases that were played: the place behind them, and what is in the output buffer.
@@ -530,14 +540,14 @@ fn case_all(table: &[u8], starts: &[usize], out: &mut [u8]) -> bool
         return false;
     }
     if h.n > 0 {
-        io::write_all(2, b"bad case list\n");
+        io::write_all(2, b"cases: bad case list\n");
     }
     flushed(out, h.at)
 }
 
 // The templates of the lines, one behind the other: nothing more, refused, and for each letter from A to Y what comes behind `body=` in the line of a message
 // whose body has this tag; none for the letters that are no tag.
-fn go(raw: bool) {
+fn go(raw: bool, words: Words) {
     let table: &[u8] = b"\
         nothing\n{.\
         refused {n} {n}\n{.\
@@ -592,21 +602,31 @@ fn go(raw: bool) {
         RegShoRestriction\tstock={8}\taction={0=None,1=Intraday,2=Extant,}\n{.";
     let starts = templates::starts_of(table);
     let mut out = io::large_buffer();
-    let mut written = true;
     if raw {
-        written = show_all(table, &starts, &mut out);
-    } else {
-        written = case_all(table, &starts, &mut out);
+        show_all(words, table, &starts, &mut out);
+        return;
     }
-    if !written {
-        io::write_all(2, b"standard output cannot be written\n");
+    if !case_all(table, &starts, &mut out) {
+        io::write_all(2, b"cases: a write failed\n");
     }
 }
 
+// The program `show`: what the words ask for, and nothing where they are none.
 pub fn show() {
-    go(true);
+    let w = words::asked(false);
+    if w.known {
+        go(true, w);
+        return;
+    }
+    words::misuse(w, b"show: its word is status\n");
 }
 
+// The program `cases`.
 pub fn cases() {
-    go(false);
+    let none = Words {
+        quiet: false,
+        status: false,
+        known: true,
+    };
+    go(false, none);
 }

@@ -48,8 +48,8 @@ counted-requires c κs = search needs
 enum-told : tie.Need-enum-told
 enum-told c = search needs
 
-enum-told-2 : tie.Need-enum-told-2
-enum-told-2 c = search needs
+enum-known-r-2 : tie.Need-enum-known-r-2
+enum-known-r-2 c = search needs
 
 halted-requires-2 : tie.Need-halted-requires-2
 halted-requires-2 c κs = search needs
@@ -78,7 +78,7 @@ fed-spec =
     enum-known-r
     counted-requires
     enum-told
-    enum-told-2
+    enum-known-r-2
     halted-requires-2
     returns-2
     returns-3
