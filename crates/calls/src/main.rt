@@ -163,7 +163,7 @@ fn call(lent: bool, v: [u64; 17], a: &mut [u8], b: &[u8], out: &mut [u8]) -> usi
 fn flushed(out: &[u8], end: usize) -> bool
     requires { ⌜ end ≤ length (now out) ⌝ }
 {
-    io::write_all(1, &out[..end])
+    standard::print(&out[..end])
 }
 
 // The whole line; whether there was such a call and the line could be written.

@@ -7,14 +7,14 @@ use borrow.Author.Needs.{needs}
 use Rattle.calls.proofs.flushed.Statement.{statement}
 use Rattle.calls.proofs.flushed.Tie as tie
 
-slice-aggregate-write-all : tie.Need-slice-aggregate-write-all
-slice-aggregate-write-all c = sym (length-take-le _ _ (omega arith))
+slice-aggregate-print : tie.Need-slice-aggregate-print
+slice-aggregate-print c = sym (length-take-le _ _ (omega arith))
 
-write-all-requires : tie.Need-write-all-requires
-write-all-requires c κs = search needs
+print-requires : tie.Need-print-requires
+print-requires c κs = search needs
 
 returns : tie.Need-returns
 returns c = search needs
 
 pub flushed-spec : {M : Type 1} → statement M
-flushed-spec = tie.close (tie.spec slice-aggregate-write-all write-all-requires returns)
+flushed-spec = tie.close (tie.spec slice-aggregate-print print-requires returns)
