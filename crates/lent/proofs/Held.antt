@@ -64,20 +64,20 @@ abbrev pub state-parts : Tys
 state-parts = tcons (tyInt w64) (tcons (tyInt w64) (tcons (tyInt w64) (tcons (tyInt w64) (tcons (tyInt w64) (tcons tyBool tnil)))))
 
 -- what a Stream's type says of its parts: the numbers fit
-pub record Fits (s : Stream) : Type 0 where
+pub record InRange (s : Stream) : Type 0 where
   pub start-fits : s .start < 2 ^ 64
   pub end-fits : s .end < 2 ^ 64
   pub bytes-fit : s .«bytes_read» < 2 ^ 64
   pub calls-fit : s .«read_calls» < 2 ^ 64
   pub messages-fit : s .messages < 2 ^ 64
 
-pub fits : (s : Stream) {vs : List Val} → Is T.the-row s vs → Fits s
+pub fits : (s : Stream) {vs : List Val} → Is T.the-row s vs → InRange s
 fits s {vs} p =
     let a = LL.owed T.the-type T′.the-laws s vs p in
     record { start-fits = a .0 .1; end-fits = a .1 .0 .1; bytes-fit = a .1 .1 .0 .1; calls-fit = a .1 .1 .1 .0 .1; messages-fit = a .1 .1 .1 .1 .0 .1 }
 
 -- and a Stream is made of parts that fit
-pub made : (s : Stream) → Fits s → Is T.the-row s (state-val s ∷ [])
+pub made : (s : Stream) → InRange s → Is T.the-row s (state-val s ∷ [])
 made s p =
     LL.owes T.the-type T′.the-laws s
     ((refl, p .start-fits), ((refl, p .end-fits), ((refl, p .bytes-fit), ((refl, p .calls-fit), ((refl, p .messages-fit), (refl, tt))))))
@@ -93,7 +93,7 @@ num f = (tt, record { fits = f })
 state-is : (r : Step) {vs : List Val} → Is S.the-row r vs → Is T.the-row (r .state) (state-val (r .state) ∷ [])
 state-is r {vs} p = LL.owed S.the-type S′.the-laws r vs p .0
 
-pub changed : (r : Step) {vs : List Val} → Is S.the-row r vs → Fits (r .state)
+pub changed : (r : Step) {vs : List Val} → Is S.the-row r vs → InRange (r .state)
 changed r p = fits (r .state) (state-is r p)
 
 pub answer-is : (r : Step) {vs : List Val} → Is S.the-row r vs → Is N.the-row (r .answer) (answer-val (r .answer) ∷ [])

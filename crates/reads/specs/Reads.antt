@@ -53,18 +53,18 @@ unfoldable pub heldOf : List ℕ → Place → ℕ
 heldOf list d = cond (ltb (d .i) (d .left)) 0 (cond (ltb (length list) (d .i)) 0 (d .left))
 
 -- the next read into a free part of so many bytes: what it comes to, and the bytes that it brings
-unfoldable pub nextOf : List ℕ → Place → ℕ → Read
-nextOf list p room =
+unfoldable pub readOf : List ℕ → Place → ℕ → Read
+readOf list p room =
     let d = dueOf list p in
     let n = heldOf list d in
     record { place = record { i = d .i; left = n - min n room }; count = min n room; failed = failsOf list p }
 
-unfoldable pub bytesOf : List ℕ → Place → ℕ → List ℕ
-bytesOf list p room =
+unfoldable pub broughtOf : List ℕ → Place → ℕ → List ℕ
+broughtOf list p room =
     let d = dueOf list p in
     let n = heldOf list d in
     take (min n room) (drop (d .i - n) list)
 
 -- there is a read that is not brought in
-unfoldable pub moreOf : List ℕ → Place → Bool
-moreOf list p = cond (ltb 0 (p .left)) true (isRead (drop (p .i) list))
+unfoldable pub hasMoreOf : List ℕ → Place → Bool
+hasMoreOf list p = cond (ltb 0 (p .left)) true (isRead (drop (p .i) list))

@@ -4,7 +4,7 @@ ghost use Prim.Native.Nat.{_+_, _-_, _≤_, min};
 ghost use mathlib.Core.List.{_++_};
 ghost use mathlib.Core.Path.{_≡_};
 ghost use lib.ListN.{length, take, drop};
-ghost use Rattle.reads.specs.Reads.{headOf, closes, isRead, bringsOf, caseEndOf, dueOf, failsOf, heldOf, nextOf, bytesOf, moreOf};
+ghost use Rattle.reads.specs.Reads.{headOf, closes, isRead, bringsOf, caseEndOf, dueOf, failsOf, heldOf, readOf, broughtOf, hasMoreOf};
 
 // The heads: the case's end, a read that fails, and the most bytes that a read brings.
 const CLOSED: usize = 0xffff;
@@ -171,8 +171,8 @@ fn bring(list: &[u8], i: usize, n: usize, free: &mut [u8]) -> usize
 
 // The next read of a case, into the free part of a buffer: its bytes stand at the front then. Where the case has none left, one that brings nothing.
 pub fn next_read(list: &[u8], p: Place, free: &mut [u8]) -> Read
-    ensures { λ r. ⌜ r ≡ nextOf (now (list .entry)) p (length (now (free .entry))) ⌝ }
-    ensures { λ r. ⌜ now (free .exit) ≡ bytesOf (now (list .entry)) p (length (now (free .entry))) ++ drop (r .count) (now (free .entry)) ⌝ }
+    ensures { λ r. ⌜ r ≡ readOf (now (list .entry)) p (length (now (free .entry))) ⌝ }
+    ensures { λ r. ⌜ now (free .exit) ≡ broughtOf (now (list .entry)) p (length (now (free .entry))) ++ drop (r .count) (now (free .entry)) ⌝ }
 {
     let failed = fails(list, p);
     let d = due(list, p);
@@ -188,7 +188,7 @@ pub fn next_read(list: &[u8], p: Place, free: &mut [u8]) -> Read
 
 // Whether a case has reads that are not brought in.
 pub fn has_more(list: &[u8], p: Place) -> bool
-    ensures { λ r. ⌜ r ≡ moreOf (now (list .entry)) p ⌝ }
+    ensures { λ r. ⌜ r ≡ hasMoreOf (now (list .entry)) p ⌝ }
 {
     let i = p.i;
     if p.left > 0 {

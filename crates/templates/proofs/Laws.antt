@@ -13,7 +13,7 @@ use lib.ListN.{length, getD, take, drop, set, length-drop, length-set, drop-of-l
 use lib.Seq.{drop-cons, drop-drop, getD-drop, take-suc-set}
 use Rattle.text.specs.Decimal.{Wrote, Puts}
 use Rattle.text.proofs.Laws.{wrote-long, wrote-none, wrote-byte, wrote-append, wrote-as, wrote-both}
-use Rattle.templates.specs.Templates.{brace, closing, dot, comma, until, from, past, shownOf, bytesOf, letterOf, isName, nameOf, valueOf, behindOf, textOf, templateOf, startOf, startsOf}
+use Rattle.templates.specs.Templates.{brace, closing, dot, comma, until, from, past, shownOf, lettersOf, letterOf, isName, nameOf, valueOf, behindOf, filledOf, templateOf, beginOf, startsOf}
 
 -- ---- the byte at a place of the table
 
@@ -117,10 +117,10 @@ pub record Spelling (v n : ℕ) (b₀ : List ℕ) (at : ℕ) (b : List ℕ) (k l
   pub some : left ≤ n
   pub room : k + 4 * left ≤ at + 4 * n
   pub long : length b ≡ length b₀
-  pub then : (a : List ℕ) (r : ℕ) → Wrote (bytesOf left v) b k a r → Wrote (bytesOf n v) b₀ at a r
+  pub then : (a : List ℕ) (r : ℕ) → Wrote (lettersOf left v) b k a r → Wrote (lettersOf n v) b₀ at a r
 
-bytes-next : (v left : ℕ) → 0 < left → bytesOf left v ≡ shownOf (v / 2 ^ (8 * (left - 1)) % 256) ++ bytesOf (left - 1) v
-unfolding bytesOf
+bytes-next : (v left : ℕ) → 0 < left → lettersOf left v ≡ shownOf (v / 2 ^ (8 * (left - 1)) % 256) ++ lettersOf (left - 1) v
+unfolding lettersOf
 bytes-next v zero h = absurd (omega arith)
 bytes-next v (suc n) h =
     let e : suc n - 1 ≡ n = omega arith in
@@ -136,8 +136,8 @@ spelling-more v n b₀ at b k left p h a r s w =
       then = λ c q z. p .then c q (wrote-both (bytes-next v left h) w z);
     }
 
-pub spelling-end : (v n : ℕ) (b₀ : List ℕ) (at : ℕ) (b : List ℕ) (k : ℕ) → Spelling v n b₀ at b k 0 → k ≤ length b → Wrote (bytesOf n v) b₀ at b k
-unfolding bytesOf
+pub spelling-end : (v n : ℕ) (b₀ : List ℕ) (at : ℕ) (b : List ℕ) (k : ℕ) → Spelling v n b₀ at b k 0 → k ≤ length b → Wrote (lettersOf n v) b₀ at b k
+unfolding lettersOf
 spelling-end v n b₀ at b k p h = p .then b k (wrote-none b k h)
 
 -- ---- the value at a place
@@ -171,26 +171,26 @@ module _ (t : List ℕ) (i v : ℕ) where
 -- ---- a template, value by value
 
 module _ (t vs : List ℕ) (i k : ℕ) where
-  pub text-last : length vs ≤ k → textOf (drop i t) (drop k vs) ≡ until brace (drop i t)
-  unfolding textOf
+  pub text-last : length vs ≤ k → filledOf (drop i t) (drop k vs) ≡ until brace (drop i t)
+  unfolding filledOf
   text-last h = rw (none-at vs k h)
 
   module _ (h : k < length vs) (j : ℕ) (e : drop j t ≡ from brace (drop i t)) where
     place : past brace (drop i t) ≡ drop (j + 1) t
     place = ap (λ (l : List ℕ). drop 1 l) (sym e) ∙ drop-drop 1 j t
 
-    pub text-stops : getD t (j + 1) dot ≡ dot → textOf (drop i t) (drop k vs) ≡ until brace (drop i t)
-    unfolding textOf
+    pub text-stops : getD t (j + 1) dot ≡ dot → filledOf (drop i t) (drop k vs) ≡ until brace (drop i t)
+    unfolding filledOf
     text-stops d =
-        ap (textOf (drop i t)) (cons-at vs k h)
+        ap (filledOf (drop i t)) (cons-at vs k h)
         ∙ rw (place, getD-drop (j + 1) t 0 dot, add-zero (j + 1), eq-eqb (getD t (j + 1) dot) dot d, append-nil)
 
     pub text-goes : (getD t (j + 1) dot ≡ dot → ⊥)
-        → textOf (drop i t) (drop k vs)
-        ≡ until brace (drop i t) ++ (valueOf (drop (j + 1) t) (getD vs k 0) ++ textOf (behindOf (drop (j + 1) t) (getD vs k 0)) (drop (k + 1) vs))
-    unfolding textOf
+        → filledOf (drop i t) (drop k vs)
+        ≡ until brace (drop i t) ++ (valueOf (drop (j + 1) t) (getD vs k 0) ++ filledOf (behindOf (drop (j + 1) t) (getD vs k 0)) (drop (k + 1) vs))
+    unfolding filledOf
     text-goes d =
-        ap (textOf (drop i t)) (cons-at vs k h)
+        ap (filledOf (drop i t)) (cons-at vs k h)
         ∙ rw (place, getD-drop (j + 1) t 0 dot, add-zero (j + 1), ne-eqb (getD t (j + 1) dot) dot d)
 
 pub record Filling (t vs : List ℕ) (start : ℕ) (b₀ : List ℕ) (at₀ : ℕ) (b : List ℕ) (i at k : ℕ) : Type 0 where
@@ -198,14 +198,14 @@ pub record Filling (t vs : List ℕ) (start : ℕ) (b₀ : List ℕ) (at₀ : �
   pub some : k ≤ length vs
   pub room : at + (length t - i) + 32 * (length vs - k) ≤ length b
   pub long : length b ≡ length b₀
-  pub then : (a : List ℕ) (r : ℕ) → Wrote (textOf (drop i t) (drop k vs)) b at a r → Wrote (textOf (drop start t) vs) b₀ at₀ a r
+  pub then : (a : List ℕ) (r : ℕ) → Wrote (filledOf (drop i t) (drop k vs)) b at a r → Wrote (filledOf (drop start t) vs) b₀ at₀ a r
 
 module _ (t vs : List ℕ) (start : ℕ) (b₀ : List ℕ) (at₀ : ℕ) (b : List ℕ) (i at k : ℕ) (p : Filling t vs start b₀ at₀ b i at k) where
-  pub filling-last : length vs ≤ k → (a : List ℕ) (r : ℕ) → Wrote (until brace (drop i t)) b at a r → Wrote (textOf (drop start t) vs) b₀ at₀ a r
+  pub filling-last : length vs ≤ k → (a : List ℕ) (r : ℕ) → Wrote (until brace (drop i t)) b at a r → Wrote (filledOf (drop start t) vs) b₀ at₀ a r
   filling-last h a r w = p .then a r (wrote-as (text-last t vs i k h) w)
 
   module _ (h : k < length vs) (j : ℕ) (e : drop j t ≡ from brace (drop i t)) (b1 : List ℕ) (at1 : ℕ) (w1 : Wrote (until brace (drop i t)) b at b1 at1) where
-    pub filling-stops : getD t (j + 1) dot ≡ dot → Wrote (textOf (drop start t) vs) b₀ at₀ b1 at1
+    pub filling-stops : getD t (j + 1) dot ≡ dot → Wrote (filledOf (drop start t) vs) b₀ at₀ b1 at1
     filling-stops d = p .then b1 at1 (wrote-as (text-stops t vs i k h j e d) w1)
 
     pub filling-more : (getD t (j + 1) dot ≡ dot → ⊥) → (b2 : List ℕ) (i2 at2 : ℕ) → i2 ≤ length t → at2 + (length t - i2) ≤ at + (length t - i) + 32
@@ -222,12 +222,12 @@ module _ (t vs : List ℕ) (start : ℕ) (b₀ : List ℕ) (at₀ : ℕ) (b : Li
         }
 
 -- behind the table's end there is no template, and nothing is put
-text-none : (vs : List ℕ) → textOf [] vs ≡ []
-unfolding textOf until from
+text-none : (vs : List ℕ) → filledOf [] vs ≡ []
+unfolding filledOf until from
 text-none [] = refl
 text-none (v ∷ vs) = refl
 
-pub puts-none : (t vs b : List ℕ) (start at room : ℕ) → length t < start → Puts room (textOf (drop start t) vs) b at b at
+pub puts-none : (t vs b : List ℕ) (start at room : ℕ) → length t < start → Puts room (filledOf (drop start t) vs) b at b at
 puts-none t vs b start at room h =
     rw (none-at t start (omega arith), text-none vs) (record { fits = λ l. wrote-none b at (omega arith); full = λ _. (refl, refl) })
 
@@ -239,7 +239,7 @@ module _ (t : List ℕ) (i k : ℕ) (q : drop i t ≡ templateOf t k) where
   template-more r e = rw (add-one k) (e ∙ ap (past dot) q)
 
   pub starts-more : (l : List ℕ) → k < length l → i ≤ length t → take k l ≡ startsOf t k → take (k + 1) (set l k i) ≡ startsOf t (k + 1)
-  unfolding startsOf startOf
+  unfolding startsOf beginOf
   starts-more l h g p =
       let e : length t - length (templateOf t k) ≡ i = rw (← q, length-drop) (omega arith) in
       rw (add-one k) (take-suc-set l k i h ∙ rw (p, e))

@@ -65,16 +65,16 @@ unfoldable pub shownOf : ℕ → List ℕ
 shownOf b = cond (stays b) (b ∷ []) (backslash ∷ 'x' ∷ hexOf (b / 16) ∷ hexOf (b % 16) ∷ [])
 
 -- the last n bytes of a number
-unfoldable pub bytesOf : ℕ → ℕ → List ℕ
-bytesOf zero v = []
-bytesOf (suc n) v = shownOf (v / 2 ^ (8 * n) % 256) ++ bytesOf n v
+unfoldable pub lettersOf : ℕ → ℕ → List ℕ
+lettersOf zero v = []
+lettersOf (suc n) v = shownOf (v / 2 ^ (8 * n) % 256) ++ lettersOf n v
 
 -- how many bytes a letter stands for
 unfoldable pub widthOf : ℕ → ℕ
 widthOf k = cond (eqb k '8') 8 (cond (eqb k '4') 4 1)
 
 unfoldable pub letterOf : ℕ → ℕ → List ℕ
-letterOf k v = cond (eqb k 'n') (decimalOf v) (bytesOf (widthOf k) v)
+letterOf k v = cond (eqb k 'n') (decimalOf v) (lettersOf (widthOf k) v)
 
 -- from the name of a code on: behind the first `=` before which the code stands, of one byte or two; nothing where the braces close before.
 -- `last` is the two bytes before t
@@ -98,11 +98,11 @@ unfoldable pub behindOf : List ℕ → ℕ → List ℕ
 behindOf p v = cond (isLetter p) (drop 2 p) (past closing (from comma (nameOf v 0 p)))
 
 -- the text of the template that t begins with
-unfoldable pub textOf : List ℕ → List ℕ → List ℕ
-textOf t [] = until brace t
-textOf t (v ∷ vs) =
+unfoldable pub filledOf : List ℕ → List ℕ → List ℕ
+filledOf t [] = until brace t
+filledOf t (v ∷ vs) =
     let p = past brace t in
-    let rest = textOf (behindOf p v) vs in
+    let rest = filledOf (behindOf p v) vs in
     until brace t ++ cond (eqb (getD p 0 dot) dot) [] (valueOf p v ++ rest)
 
 -- templates in a table, one behind the other: what stands from the k-th on, the place where it begins, and these places of the first n
@@ -110,9 +110,9 @@ unfoldable pub templateOf : List ℕ → ℕ → List ℕ
 templateOf table zero = table
 templateOf table (suc k) = past dot (templateOf table k)
 
-unfoldable pub startOf : List ℕ → ℕ → ℕ
-startOf table k = length table - length (templateOf table k)
+unfoldable pub beginOf : List ℕ → ℕ → ℕ
+beginOf table k = length table - length (templateOf table k)
 
 unfoldable pub startsOf : List ℕ → ℕ → List ℕ
 startsOf table zero = []
-startsOf table (suc n) = startsOf table n ++ (startOf table n ∷ [])
+startsOf table (suc n) = startsOf table n ++ (beginOf table n ∷ [])

@@ -10,14 +10,14 @@ ghost use Rattle.templates.specs.Templates.{
   hexOf,
   stays,
   shownOf,
-  bytesOf,
+  lettersOf,
   widthOf,
   letterOf,
   isName,
   nameOf,
   valueOf,
   behindOf,
-  textOf,
+  filledOf,
   startsOf,
 };
 
@@ -85,7 +85,7 @@ fn shown(b: u8, out: &mut [u8], at: usize) -> usize
 // The last n bytes of a number.
 fn bytes(v: u64, n: u64, out: &mut [u8], at: usize) -> usize
     requires { ⌜ (n ≤ 8) × (at + 4 * n ≤ length (now out)) ⌝ }
-    ensures { λ r. ⌜ Wrote (bytesOf n v) (now (out .entry)) at (now (out .exit)) r ⌝ }
+    ensures { λ r. ⌜ Wrote (lettersOf n v) (now (out .entry)) at (now (out .exit)) r ⌝ }
     ensures { λ r. ⌜ r ≤ at + 4 * n ⌝ }
 {
     let mut k = at;
@@ -235,7 +235,7 @@ fn value(table: &[u8], start: usize, v: u64, out: &mut [u8], at: usize) -> Mark
 // The template that begins at a place, with the values.
 fn filled(table: &[u8], start: usize, v: &[u64], out: &mut [u8], at0: usize) -> usize
     requires { ⌜ (start ≤ length (now table)) × (at0 + (length (now table) - start) + 32 * length (now v) ≤ length (now out)) ⌝ }
-    ensures { λ r. ⌜ Wrote (textOf (drop start (now (table .entry))) (now (v .entry))) (now (out .entry)) at0 (now (out .exit)) r ⌝ }
+    ensures { λ r. ⌜ Wrote (filledOf (drop start (now (table .entry))) (now (v .entry))) (now (out .entry)) at0 (now (out .exit)) r ⌝ }
 {
     let mut from = start;
     let mut at = at0;
@@ -258,7 +258,7 @@ fn filled(table: &[u8], start: usize, v: &[u64], out: &mut [u8], at0: usize) -> 
 // Puts the text of the template that begins at a place, with the values, and answers the place behind it, where there is room for the most that it
 // could be: the table's bytes and 32 for each value. Else nothing is put.
 pub fn put(table: &[u8], start: usize, v: &[u64], out: &mut [u8], at: usize) -> usize
-    ensures { λ r. ⌜ Puts (length (now (table .entry)) + 32 * length (now (v .entry))) (textOf (drop start (now (table .entry))) (now (v .entry)))
+    ensures { λ r. ⌜ Puts (length (now (table .entry)) + 32 * length (now (v .entry))) (filledOf (drop start (now (table .entry))) (now (v .entry)))
         (now (out .entry)) at (now (out .exit)) r ⌝ }
 {
     if start > table.len() {

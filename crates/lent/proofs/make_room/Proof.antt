@@ -23,7 +23,7 @@ use Rattle.lent.proofs.room_on.Symbol as g-def
 use Rattle.lent.proofs.room_on.Symbol.{name as #lent·room-on}
 use Rattle.lent.proofs.room_on.Met as g-thm
 use Rattle.lent.proofs.Apart.{room-parts, room-into, room-back}
-use Rattle.lent.proofs.Held.{answer-val, Fits, fits, made, num-val, num, changed, answer-is, lent-at, opens-stream, closes-stream, owns-answer, loads}
+use Rattle.lent.proofs.Held.{answer-val, InRange, fits, made, num-val, num, changed, answer-is, lent-at, opens-stream, closes-stream, owns-answer, loads}
 use Rattle.lent.proofs.Held.{stores, lands-step, answers, in-state, hands, gone, adds-num}
 use Rattle.lent.proofs.Walk.{by-walk, hears}
 use Rattle.lent.proofs.make_room.Key.{name as #lent·make-room}
@@ -76,7 +76,7 @@ module _ {M : Type 1} (𝓤 : URA M) (H : Heap 𝓤) (A : Atoms 𝓤) (at-mem : 
     abbrev Said : Step → List ℕ → Type 0
     Said r zs = (r ≡ roomOf (room-parts h) (length ys)) × (zs ≡ roomBuffer (room-parts h) ys)
 
-    goes : Fits h → ent 𝓤 (⋆ 𝓤 H A ((‵ (flft κ′ q′) ⊛ ‵ ftrue) ∷ ‵ Own ∷ [])) (Callee .pre to)
+    goes : InRange h → ent 𝓤 (⋆ 𝓤 H A ((‵ (flft κ′ q′) ⊛ ‵ ftrue) ∷ ‵ Own ∷ [])) (Callee .pre to)
     goes p =
         qed W ((‵ (flft κ′ q′) ⊛ ‵ ftrue) ∷ ‵ Own ∷ []) ∵ nothing ! $ move ! (2 ∷ 0 ∷ []) $ fjoin ! $
         adds-num ! (h .«read_calls») (p .calls-fit) $
@@ -85,7 +85,7 @@ module _ {M : Type 1} (𝓤 : URA M) (H : Heap 𝓤) (A : Atoms 𝓤) (at-mem : 
         move ! (1 ∷ 0 ∷ []) $ join ! $ frame ! $ done !
 
     -- what is stored back fits
-    kept : Fits h → (r : Step) → Fits (r .state) → Fits (room-into h r)
+    kept : InRange h → (r : Step) → InRange (r .state) → InRange (room-into h r)
     kept p r c = record { start-fits = c .start-fits; end-fits = c .end-fits; bytes-fit = p .bytes-fit; calls-fit = c .calls-fit; messages-fit = p .messages-fit }
 
     -- what is had in the end

@@ -22,7 +22,7 @@ use Rattle.lent.proofs.next_on.Symbol as g-def
 use Rattle.lent.proofs.next_on.Symbol.{name as #lent·next-on}
 use Rattle.lent.proofs.next_on.Met as g-thm
 use Rattle.lent.proofs.Apart.{next-parts, next-into, next-back}
-use Rattle.lent.proofs.Held.{answer-val, Fits, fits, made, num-val, num, changed, answer-is, lent-at, opens-stream, closes-stream, owns-answer, loads}
+use Rattle.lent.proofs.Held.{answer-val, InRange, fits, made, num-val, num, changed, answer-is, lent-at, opens-stream, closes-stream, owns-answer, loads}
 use Rattle.lent.proofs.Held.{stores, lands-step, answers, in-state, hands, gone, adds-num, adds-flag}
 use Rattle.lent.proofs.Walk.{by-walk, hears}
 use Rattle.lent.proofs.next.Key.{name as #lent·next}
@@ -72,7 +72,7 @@ module _ {M : Type 1} (𝓤 : URA M) (H : Heap 𝓤) (A : Atoms 𝓤) (at-mem : 
     abbrev found : Step
     found = nextOf (next-parts h) (s .now)
 
-    goes : Fits h → ent 𝓤 (⋆ 𝓤 H A ((‵ (flft κ′ q′) ⊛ ‵ ftrue) ∷ ‵ Own ∷ [])) (Callee .pre to)
+    goes : InRange h → ent 𝓤 (⋆ 𝓤 H A ((‵ (flft κ′ q′) ⊛ ‵ ftrue) ∷ ‵ Own ∷ [])) (Callee .pre to)
     goes p =
         qed W ((‵ (flft κ′ q′) ⊛ ‵ ftrue) ∷ ‵ Own ∷ []) ∵ nothing ! $ move ! (2 ∷ 0 ∷ []) $ fjoin ! $
         adds-flag ! (h .error) $
@@ -82,7 +82,7 @@ module _ {M : Type 1} (𝓤 : URA M) (H : Heap 𝓤) (A : Atoms 𝓤) (at-mem : 
         move ! (1 ∷ 0 ∷ []) $ join ! $ frame ! $ done !
 
     -- what is stored back fits
-    kept : Fits h → (r : Step) → Fits (r .state) → Fits (next-into h r)
+    kept : InRange h → (r : Step) → InRange (r .state) → InRange (next-into h r)
     kept p r c = record { start-fits = c .start-fits; end-fits = p .end-fits; bytes-fit = p .bytes-fit; calls-fit = p .calls-fit; messages-fit = c .messages-fit }
 
     -- what is had in the end

@@ -36,7 +36,7 @@ use Rattle.lent.proofs.played_on as g
 use Rattle.lent.proofs.played_on.Symbol as g-def
 use Rattle.lent.proofs.played_on.Symbol.{name as #lent·played-on}
 use Rattle.lent.proofs.played_on.Met as g-thm
-use Rattle.lent.proofs.Held.{state-val, state-name, state-parts, Fits, fits, num-val, num, lent-at, opens-stream, closes-stream, loads, stores, hands}
+use Rattle.lent.proofs.Held.{state-val, state-name, state-parts, InRange, fits, num-val, num, lent-at, opens-stream, closes-stream, loads, stores, hands}
 use Rattle.lent.proofs.Held.{gone, adds-num, adds-flag}
 use Rattle.lent.proofs.Walk.{by-walk, hears}
 use Rattle.lent.proofs.play_on.Key.{name as #lent·play-on}
@@ -90,7 +90,7 @@ reach-val r = LL.val Q.the-type Q′.the-laws (reach r)
 played-is : (r : Played) {vs : List Val} → Is S.the-row r vs → Is T.the-row (r .state) (state-val (r .state) ∷ [])
 played-is r {vs} p = LL.owed S.the-type S′.the-laws r vs p .0
 
-changed : (r : Played) {vs : List Val} → Is S.the-row r vs → Fits (r .state)
+changed : (r : Played) {vs : List Val} → Is S.the-row r vs → InRange (r .state)
 changed r p = fits (r .state) (played-is r p)
 
 reach-is : (r : Played) {vs : List Val} → Is S.the-row r vs → Is Q.the-row (reach r) (reach-val r ∷ [])
@@ -161,7 +161,7 @@ module _ {M : Type 1} (𝓤 : URA M) (H : Heap 𝓤) (A : Atoms 𝓤) (at-mem : 
     abbrev Said : Played → List ℕ → Type 0
     Said r zs = (r ≡ found .played) × (zs ≡ found .buffer)
 
-    goes : Fits h → ent 𝓤 (⋆ 𝓤 H A (Tokens ∷ ‵ Own ∷ ‵ Shr ∷ [])) (Callee .pre to)
+    goes : InRange h → ent 𝓤 (⋆ 𝓤 H A (Tokens ∷ ‵ Own ∷ ‵ Shr ∷ [])) (Callee .pre to)
     goes p =
         qed W (Tokens ∷ ‵ Own ∷ ‵ Shr ∷ []) ∵ nothing ! $
         adds-num ! w w-fits $

@@ -21,7 +21,7 @@ use Rattle.lent.proofs.told_on.Symbol as g-def
 use Rattle.lent.proofs.told_on.Symbol.{name as #lent·told-on}
 use Rattle.lent.proofs.told_on.Met as g-thm
 use Rattle.lent.proofs.Apart.{told-parts, told-into, told-back}
-use Rattle.lent.proofs.Held.{answer-val, Fits, fits, made, num-val, num, changed, answer-is, lent-at, opens-stream, closes-stream, owns-answer, loads}
+use Rattle.lent.proofs.Held.{answer-val, InRange, fits, made, num-val, num, changed, answer-is, lent-at, opens-stream, closes-stream, owns-answer, loads}
 use Rattle.lent.proofs.Held.{stores, lands-step, answers, in-state, hands, gone, adds-num, adds-flag}
 use Rattle.lent.proofs.Walk.{by-walk, hears}
 use Rattle.lent.proofs.told.Key.{name as #lent·told}
@@ -64,7 +64,7 @@ module _ {M : Type 1} (𝓤 : URA M) (H : Heap 𝓤) (A : Atoms 𝓤) (at-mem : 
     abbrev found : Step
     found = toldOf (told-parts h) n
 
-    goes : Fits h → ent 𝓤 (emp 𝓤) (Callee .pre to)
+    goes : InRange h → ent 𝓤 (emp 𝓤) (Callee .pre to)
     goes p =
         qed W [] ∵ nothing ! $
         adds-num ! n n-fits $
@@ -75,7 +75,7 @@ module _ {M : Type 1} (𝓤 : URA M) (H : Heap 𝓤) (A : Atoms 𝓤) (at-mem : 
         nothing ! $ join ! $ frame ! $ done !
 
     -- what is stored back fits
-    kept : Fits h → (r : Step) → Fits (r .state) → Fits (told-into h r)
+    kept : InRange h → (r : Step) → InRange (r .state) → InRange (told-into h r)
     kept p r c = record { start-fits = p .start-fits; end-fits = c .end-fits; bytes-fit = c .bytes-fit; calls-fit = p .calls-fit; messages-fit = p .messages-fit }
 
     -- what is had in the end

@@ -21,7 +21,7 @@ use Rattle.lent.proofs.failed_on.Symbol as g-def
 use Rattle.lent.proofs.failed_on.Symbol.{name as #lent·failed-on}
 use Rattle.lent.proofs.failed_on.Met as g-thm
 use Rattle.lent.proofs.Apart.{failed-parts, failed-into, failed-back}
-use Rattle.lent.proofs.Held.{answer-val, Fits, fits, made, num-val, num, answer-is, lent-at, opens-stream, closes-stream, owns-answer, loads, stores}
+use Rattle.lent.proofs.Held.{answer-val, InRange, fits, made, num-val, num, answer-is, lent-at, opens-stream, closes-stream, owns-answer, loads, stores}
 use Rattle.lent.proofs.Held.{lands-step, answers, in-state, hands, gone, adds-num, adds-flag}
 use Rattle.lent.proofs.Walk.{by-walk, hears}
 use Rattle.lent.proofs.told_failed.Key.{name as #lent·told-failed}
@@ -64,7 +64,7 @@ module _ {M : Type 1} (𝓤 : URA M) (H : Heap 𝓤) (A : Atoms 𝓤) (at-mem : 
     abbrev found : Step
     found = failedOf (failed-parts h)
 
-    goes : Fits h → ent 𝓤 (emp 𝓤) (Callee .pre to)
+    goes : InRange h → ent 𝓤 (emp 𝓤) (Callee .pre to)
     goes p =
         qed W [] ∵ nothing ! $
         adds-flag ! (h .error) $
@@ -73,7 +73,7 @@ module _ {M : Type 1} (𝓤 : URA M) (H : Heap 𝓤) (A : Atoms 𝓤) (at-mem : 
         nothing ! $ join ! $ frame ! $ done !
 
     -- what is stored back fits
-    kept : Fits h → (r : Step) → Fits (failed-into h r)
+    kept : InRange h → (r : Step) → InRange (failed-into h r)
     kept p r = record { start-fits = p .start-fits; end-fits = p .end-fits; bytes-fit = p .bytes-fit; calls-fit = p .calls-fit; messages-fit = p .messages-fit }
 
     -- what is had in the end

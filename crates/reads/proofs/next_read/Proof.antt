@@ -1,7 +1,7 @@
 -- `reads::next_read` meets its contract.
 -- Assumes nothing.
 use mathlib.Core.Path.{_∙_}
-use Rattle.reads.specs.Reads.{nextOf, bytesOf}
+use Rattle.reads.specs.Reads.{readOf, broughtOf}
 use Rattle.reads.proofs.Laws.{held-before}
 use borrow.Author.Needs.{needs}
 use Rattle.reads.proofs.next_read.Statement.{statement}
@@ -26,7 +26,7 @@ same-length : tie.Need-same-length
 same-length c = search needs
 
 returns : tie.Need-returns
-unfolding nextOf bytesOf
+unfolding readOf broughtOf
 returns c = (
   rw (c .before .before .bring .ensures .0, c .before .before .before .before .held .ensures, c .before .before .before .before .before .due .ensures, c .before .before .before .before .before .before .fails .ensures),
   c .before .before .bring .ensures .1 ∙ rw (c .before .before .bring .ensures .0, c .before .before .before .before .held .ensures, c .before .before .before .before .before .due .ensures),
