@@ -21,8 +21,8 @@ pub fn next(s: Stream, buf: &[u8]) -> Step
 
 // Make room, of a state that is lent.
 pub fn make_room(s: Stream, buf: &mut [u8]) -> Step
-    ensures { λ r. ⌜ (r ≡ roomOf s (length (now (buf .entry))))
-        × (now (buf .exit) ≡ roomBuffer s (now (buf .entry))) ⌝ }
+    ensures { λ r. ⌜ r ≡ roomOf s (length (now (buf .entry))) ⌝ }
+    ensures { λ _. ⌜ now (buf .exit) ≡ roomBuffer s (now (buf .entry)) ⌝ }
 {
     let mut state = s;
     let answer = lent::make_room(&mut state, buf);
@@ -49,8 +49,8 @@ pub fn told_failed(s: Stream) -> Step
 
 // A slice plays the reader, of a state that is lent.
 pub fn play(s: Stream, buf: &mut [u8], src: &[u8], at: usize, width: usize) -> Played
-    ensures { λ r. ⌜ (r ≡ playOf (now (src .entry)) width s (now (buf .entry)) at .played)
-        × (now (buf .exit) ≡ playOf (now (src .entry)) width s (now (buf .entry)) at .buffer) ⌝ }
+    ensures { λ r. ⌜ r ≡ playOf (now (src .entry)) width s (now (buf .entry)) at .played ⌝ }
+    ensures { λ _. ⌜ now (buf .exit) ≡ playOf (now (src .entry)) width s (now (buf .entry)) at .buffer ⌝ }
 {
     let mut state = s;
     let reach = lent::play_on(&mut state, buf, src, at, width);

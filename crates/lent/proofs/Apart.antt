@@ -65,9 +65,9 @@ room-apart h len =
     (across f (leb 52 (h .end - h .start)) refl (across f (eqb (h .«read_calls») 18446744073709551615) refl (across f (eqb (h .end) 8192) refl refl))) refl) refl) refl
 
 pub room-back : (h : Stream) (b : List ℕ) (r : Step) (c : List ℕ) → (r ≡ roomOf (room-parts h) (length b)) × (c ≡ roomBuffer (room-parts h) b)
-    → (r .answer ≡ roomOf h (length b) .answer) × (room-into h r ≡ roomOf h (length b) .state) × (c ≡ roomBuffer h b)
+    → (r .answer ≡ roomOf h (length b) .answer) × ((room-into h r ≡ roomOf h (length b) .state) × (c ≡ roomBuffer h b))
 unfolding roomBuffer
-room-back h b r c e = let p = stored (room-into h) (e .0) (room-apart h (length b)) in (p .0, p .1, e .1)
+room-back h b r c e = let p = stored (room-into h) (e .0) (room-apart h (length b)) in (p .0, (p .1, e .1))
 
 -- told how many bytes came
 abbrev pub told-parts : Stream → Stream

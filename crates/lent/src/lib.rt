@@ -30,8 +30,8 @@ fn next_on(start: usize, end: usize, messages: u64, error: bool, buf: &[u8]) -> 
 
 // Next: the message that stands first in the window, or why there is none.
 pub fn next(s: &mut Stream, buf: &[u8]) -> Answer
-    ensures { λ r. ⌜ (r ≡ nextOf (now (s .entry)) (now (buf .entry)) .answer)
-        × (now (s .exit) ≡ nextOf (now (s .entry)) (now (buf .entry)) .state) ⌝ }
+    ensures { λ r. ⌜ r ≡ nextOf (now (s .entry)) (now (buf .entry)) .answer ⌝ }
+    ensures { λ _. ⌜ now (s .exit) ≡ nextOf (now (s .entry)) (now (buf .entry)) .state ⌝ }
 {
     let step = next_on(s.start, s.end, s.messages, s.error, buf);
     s.start = step.state.start;
@@ -42,8 +42,8 @@ pub fn next(s: &mut Stream, buf: &[u8]) -> Answer
 
 // Make room, on the parts that it looks at.
 fn room_on(start: usize, end: usize, calls: u64, buf: &mut [u8]) -> Step
-    ensures { λ r. ⌜ (r ≡ roomOf (stateOf start end 0 calls 0 false) (length (now (buf .entry))))
-        × (now (buf .exit) ≡ roomBuffer (stateOf start end 0 calls 0 false) (now (buf .entry))) ⌝ }
+    ensures { λ r. ⌜ r ≡ roomOf (stateOf start end 0 calls 0 false) (length (now (buf .entry))) ⌝ }
+    ensures { λ _. ⌜ now (buf .exit) ≡ roomBuffer (stateOf start end 0 calls 0 false) (now (buf .entry)) ⌝ }
 {
     let parts = Stream {
         start,
@@ -58,9 +58,9 @@ fn room_on(start: usize, end: usize, calls: u64, buf: &mut [u8]) -> Step
 
 // Make room: where it is ready, the buffer from end onward is the caller's to fill.
 pub fn make_room(s: &mut Stream, buf: &mut [u8]) -> Answer
-    ensures { λ r. ⌜ (r ≡ roomOf (now (s .entry)) (length (now (buf .entry))) .answer)
-        × (now (s .exit) ≡ roomOf (now (s .entry)) (length (now (buf .entry))) .state)
-        × (now (buf .exit) ≡ roomBuffer (now (s .entry)) (now (buf .entry))) ⌝ }
+    ensures { λ r. ⌜ r ≡ roomOf (now (s .entry)) (length (now (buf .entry))) .answer ⌝ }
+    ensures { λ _. ⌜ now (s .exit) ≡ roomOf (now (s .entry)) (length (now (buf .entry))) .state ⌝ }
+    ensures { λ _. ⌜ now (buf .exit) ≡ roomBuffer (now (s .entry)) (now (buf .entry)) ⌝ }
 {
     let step = room_on(s.start, s.end, s.read_calls, buf);
     s.start = step.state.start;
@@ -86,8 +86,8 @@ fn told_on(start: usize, end: usize, bytes: u64, error: bool, n: usize) -> Step
 
 // Told how many bytes the free part was filled with; none means that the input ended.
 pub fn told(s: &mut Stream, n: usize) -> Answer
-    ensures { λ r. ⌜ (r ≡ toldOf (now (s .entry)) n .answer)
-        × (now (s .exit) ≡ toldOf (now (s .entry)) n .state) ⌝ }
+    ensures { λ r. ⌜ r ≡ toldOf (now (s .entry)) n .answer ⌝ }
+    ensures { λ _. ⌜ now (s .exit) ≡ toldOf (now (s .entry)) n .state ⌝ }
 {
     let step = told_on(s.start, s.end, s.bytes_read, s.error, n);
     s.end = step.state.end;
@@ -113,8 +113,8 @@ fn failed_on(start: usize, end: usize, error: bool) -> Step
 
 // Told that the read failed.
 pub fn told_failed(s: &mut Stream) -> Answer
-    ensures { λ r. ⌜ (r ≡ failedOf (now (s .entry)) .answer)
-        × (now (s .exit) ≡ failedOf (now (s .entry)) .state) ⌝ }
+    ensures { λ r. ⌜ r ≡ failedOf (now (s .entry)) .answer ⌝ }
+    ensures { λ _. ⌜ now (s .exit) ≡ failedOf (now (s .entry)) .state ⌝ }
 {
     let step = failed_on(s.start, s.end, s.error);
     s.error = step.state.error;
@@ -140,8 +140,8 @@ fn played_on(
     at: usize,
     width: usize,
 ) -> Played
-    ensures { λ r. ⌜ (r ≡ playOf (now (src .entry)) width (stateOf start end bytes calls messages error) (now (buf .entry)) at .played)
-        × (now (buf .exit) ≡ playOf (now (src .entry)) width (stateOf start end bytes calls messages error) (now (buf .entry)) at .buffer) ⌝ }
+    ensures { λ r. ⌜ r ≡ playOf (now (src .entry)) width (stateOf start end bytes calls messages error) (now (buf .entry)) at .played ⌝ }
+    ensures { λ _. ⌜ now (buf .exit) ≡ playOf (now (src .entry)) width (stateOf start end bytes calls messages error) (now (buf .entry)) at .buffer ⌝ }
 {
     let parts = Stream {
         start,
@@ -156,10 +156,10 @@ fn played_on(
 
 // A slice plays the reader, in pieces of a width: the position comes back with the answer.
 pub fn play_on(s: &mut Stream, buf: &mut [u8], src: &[u8], at: usize, width: usize) -> Reach
-    ensures { λ r. ⌜ (r .at ≡ playOf (now (src .entry)) width (now (s .entry)) (now (buf .entry)) at .played .at)
-        × (r .answer ≡ playOf (now (src .entry)) width (now (s .entry)) (now (buf .entry)) at .played .answer)
-        × (now (s .exit) ≡ playOf (now (src .entry)) width (now (s .entry)) (now (buf .entry)) at .played .state)
-        × (now (buf .exit) ≡ playOf (now (src .entry)) width (now (s .entry)) (now (buf .entry)) at .buffer) ⌝ }
+    ensures { λ r. ⌜ r .at ≡ playOf (now (src .entry)) width (now (s .entry)) (now (buf .entry)) at .played .at ⌝ }
+    ensures { λ r. ⌜ r .answer ≡ playOf (now (src .entry)) width (now (s .entry)) (now (buf .entry)) at .played .answer ⌝ }
+    ensures { λ _. ⌜ now (s .exit) ≡ playOf (now (src .entry)) width (now (s .entry)) (now (buf .entry)) at .played .state ⌝ }
+    ensures { λ _. ⌜ now (buf .exit) ≡ playOf (now (src .entry)) width (now (s .entry)) (now (buf .entry)) at .buffer ⌝ }
 {
     let p = played_on(
         s.start,

@@ -25,7 +25,7 @@ use Rattle.lent.proofs.room_on.Met as g-thm
 use Rattle.lent.proofs.Apart.{room-parts, room-into, room-back}
 use Rattle.lent.proofs.Held.{answer-val, InRange, fits, made, num-val, num, changed, answer-is, lent-at, opens-stream, closes-stream, owns-answer, loads}
 use Rattle.lent.proofs.Held.{stores, lands-step, answers, in-state, hands, gone, adds-num}
-use Rattle.lent.proofs.Walk.{by-walk, hears}
+use Rattle.lent.proofs.Walk.{clause, _and_, by-walk, hears, ends}
 use Rattle.lent.proofs.make_room.Key.{name as #lent·make-room}
 use Rattle.lent.proofs.make_room as f
 use Rattle.lent.proofs.make_room.Statement as stated
@@ -96,8 +96,8 @@ module _ {M : Type 1} (𝓤 : URA M) (H : Heap 𝓤) (A : Atoms 𝓤) (at-mem : 
         → ent 𝓤 (⋆ 𝓤 H A (Left r zs)) (Post (answer-val (r .answer)))
     exits r zs e l is =
         qed W (Left r zs) ∵
-        suffices ! _ (ends-at 𝓤 H A f.ended stayed (f.clauses 𝓤 H A at-mem run) W here (answer-val (r .answer)) (r .answer) (room-into h r, (zs, tt)) (tt, (l, tt))) $
-        says ! (room-back h ys r zs e) $
+        ends 𝓤 H A f.ended stayed (f.clauses 𝓤 H A at-mem run) here ! (answer-val (r .answer)) (r .answer) (room-into h r, (zs, tt)) (tt, (l, tt))
+        (clause and clause and clause) (room-back h ys r zs e) $
         move ! (2 ∷ 3 ∷ []) $ join ! $ frame ! $
         feqI ! (List Val) (vptr b o ∷ []) (vptr b o ∷ []) refl $ fjoin3 ! $
         nothing ! $ move ! (2 ∷ 0 ∷ []) $ fjoin ! $ move ! (1 ∷ 0 ∷ []) $ fjoin ! $ frame ! $
@@ -127,7 +127,7 @@ module _ {M : Type 1} (𝓤 : URA M) (H : Heap 𝓤) (A : Atoms 𝓤) (at-mem : 
           (from ! (stop !)) (init ! 5 refl (tt, (tt, (record { fits = room .0 }, tt)))) $
           move ! (1 ∷ []) $ drop ! $ move ! (22 ∷ 23 ∷ []) $ use2 W (raw (Callee .pre to)) (goes (fits h was)) $
           calls-at ! fm Callee known to (hands ! 13 refl (hands ! 11 refl (hands ! 9 refl (hands ! 5 refl (no-more !))))) (λ v.
-          hears 𝓤 H A g.ended (g.clauses 𝓤 H A at-mem run) to ! tt (λ r zs. Said r (zs .1 .1 .1 .0)) (λ r zs. id⊢ 𝓤 _) (λ r zs e.
+          hears 𝓤 H A g.ended (g.clauses 𝓤 H A at-mem run) to ! tt (λ _ _. clause and clause) (λ r zs e.
           -- of the last values the slice's, with its length; the others say nothing
           move ! (2 ∷ []) $ fsplit ! $ drop ! $ fsplit ! $ drop ! $ fsplit ! $ drop ! $ fsplit ! $ fsplit ! $ move ! (1 ∷ []) $ feqL ! (λ l. move ! (1 ∷ []) $ drop ! $
           move ! (1 ∷ 2 ∷ []) $ peeks ! S.the-row (Is S.the-row) (shows 𝓤 H A S.the-row) r (v ∷ []) (λ is.

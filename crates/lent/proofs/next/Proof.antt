@@ -24,7 +24,7 @@ use Rattle.lent.proofs.next_on.Met as g-thm
 use Rattle.lent.proofs.Apart.{next-parts, next-into, next-back}
 use Rattle.lent.proofs.Held.{answer-val, InRange, fits, made, num-val, num, changed, answer-is, lent-at, opens-stream, closes-stream, owns-answer, loads}
 use Rattle.lent.proofs.Held.{stores, lands-step, answers, in-state, hands, gone, adds-num, adds-flag}
-use Rattle.lent.proofs.Walk.{by-walk, hears}
+use Rattle.lent.proofs.Walk.{clause, _and_, by-walk, hears, ends}
 use Rattle.lent.proofs.next.Key.{name as #lent·next}
 use Rattle.lent.proofs.next as f
 use Rattle.lent.proofs.next.Statement as stated
@@ -93,8 +93,8 @@ module _ {M : Type 1} (𝓤 : URA M) (H : Heap 𝓤) (A : Atoms 𝓤) (at-mem : 
         → ent 𝓤 (⋆ 𝓤 H A (Left r)) (Post (answer-val (r .answer)))
     exits r e is =
         qed W (Left r) ∵
-        suffices ! _ (ends-at 𝓤 H A f.ended stayed (f.clauses 𝓤 H A at-mem run) W here (answer-val (r .answer)) (r .answer) (next-into h r, (tt, tt)) (tt, (tt, tt))) $
-        says ! (next-back h (s .now) r e) $
+        ends 𝓤 H A f.ended stayed (f.clauses 𝓤 H A at-mem run) here ! (answer-val (r .answer)) (r .answer) (next-into h r, (tt, tt)) (tt, (tt, tt))
+        (clause and clause) (next-back h (s .now) r e) $
         move ! (2 ∷ 3 ∷ []) $ join ! $ frame ! $
         feqI ! (List Val) (vptr b o ∷ []) (vptr b o ∷ []) refl $ fjoin3 ! $
         nothing ! $ move ! (2 ∷ 0 ∷ []) $ fjoin ! $ move ! (1 ∷ 0 ∷ []) $ fjoin ! $ frame ! $
@@ -122,7 +122,7 @@ module _ {M : Type 1} (𝓤 : URA M) (H : Heap 𝓤) (A : Atoms 𝓤) (at-mem : 
           loads ! 17 5 5 refl refl refl (tt, tt) $
           move ! (1 ∷ []) $ drop ! $ move ! (20 ∷ 21 ∷ []) $ use2 W (raw (Callee .pre to)) (goes (fits h was)) $
           calls-at ! fm Callee known to (hands ! 11 refl (hands ! 9 refl (hands ! 7 refl (hands ! 5 refl (hands ! 15 refl (no-more !)))))) (λ v.
-          hears 𝓤 H A g.ended (g.clauses 𝓤 H A at-mem run) to ! tt (λ r _. r ≡ found) (λ r _. id⊢ 𝓤 _) (λ r _ e. move ! (2 ∷ []) $ drop ! $
+          hears 𝓤 H A g.ended (g.clauses 𝓤 H A at-mem run) to ! tt (λ _ _. clause) (λ r _ e. move ! (2 ∷ []) $ drop ! $
           peeks ! S.the-row (Is S.the-row) (shows 𝓤 H A S.the-row) r (v ∷ []) (λ is.
           -- [what a Step owns; the slice's token; the record's cell; the open borrow; obs; auth; _7; …; down to room for _0; …; what buf owns]
           lands-step ! 14 r is (from ! (stop !)) refl $ move ! (2 ∷ []) $

@@ -38,7 +38,7 @@ use Rattle.lent.proofs.played_on.Symbol.{name as #lent·played-on}
 use Rattle.lent.proofs.played_on.Met as g-thm
 use Rattle.lent.proofs.Held.{state-val, state-name, state-parts, InRange, fits, num-val, num, lent-at, opens-stream, closes-stream, loads, stores, hands}
 use Rattle.lent.proofs.Held.{gone, adds-num, adds-flag}
-use Rattle.lent.proofs.Walk.{by-walk, hears}
+use Rattle.lent.proofs.Walk.{clause, _and_, by-walk, hears, ends}
 use Rattle.lent.proofs.play_on.Key.{name as #lent·play-on}
 use Rattle.lent.proofs.play_on as f
 use Rattle.lent.proofs.play_on.Statement as stated
@@ -183,9 +183,8 @@ module _ {M : Type 1} (𝓤 : URA M) (H : Heap 𝓤) (A : Atoms 𝓤) (at-mem : 
         → ent 𝓤 (⋆ 𝓤 H A (Left r zs)) (Post (reach-val r))
     exits r zs e l is =
         qed W (Left r zs) ∵
-        suffices ! _ (ends-at 𝓤 H A f.ended stayed (f.clauses 𝓤 H A at-mem run) W here (reach-val r) (reach r)
-        (r .state, (zs, (tt, (tt, (tt, tt))))) (tt, (l, (tt, (tt, (tt, tt)))))) $
-        says ! (ap (λ (z : Played). z .at) (e .0), ap (λ (z : Played). z .answer) (e .0), ap (λ (z : Played). z .state) (e .0), e .1) $
+        ends 𝓤 H A f.ended stayed (f.clauses 𝓤 H A at-mem run) here ! (reach-val r) (reach r) (r .state, (zs, (tt, (tt, (tt, tt))))) (tt, (l, (tt, (tt, (tt, tt)))))
+        (clause and clause and clause and clause) (ap (λ (z : Played). z .at) (e .0), (ap (λ (z : Played). z .answer) (e .0), (ap (λ (z : Played). z .state) (e .0), e .1))) $
         move ! (2 ∷ 3 ∷ []) $ join ! $ frame ! $
         feqI ! (List Val) (vptr b o ∷ []) (vptr b o ∷ []) refl $ fjoin3 ! $
         nothing ! $
@@ -230,7 +229,7 @@ module _ {M : Type 1} (𝓤 : URA M) (H : Heap 𝓤) (A : Atoms 𝓤) (at-mem : 
           calls-at ! fm Callee known to
           (hands ! 19 refl (hands ! 17 refl (hands ! 15 refl (hands ! 13 refl (hands ! 11 refl (hands ! 9 refl
           (hands ! 5 refl (hands ! 27 refl (hands ! 25 refl (hands ! 23 refl (no-more !))))))))))) (λ v.
-          hears 𝓤 H A g.ended (g.clauses 𝓤 H A at-mem run) to ! tt (λ r zs. Said r (zs .1 .1 .1 .1 .1 .1 .0)) (λ r zs. id⊢ 𝓤 _) (λ r zs e.
+          hears 𝓤 H A g.ended (g.clauses 𝓤 H A at-mem run) to ! tt (λ _ _. clause and clause) (λ r zs e.
           -- of the last values that of buf, with its length; the others say nothing
           move ! (2 ∷ []) $ fsplit ! $ drop ! $ fsplit ! $ drop ! $ fsplit ! $ drop ! $ fsplit ! $ drop ! $ fsplit ! $ drop ! $ fsplit ! $ drop ! $ fsplit ! $
           fsplit ! $ move ! (1 ∷ []) $ feqL ! (λ l. move ! (1 ∷ []) $ drop ! $
