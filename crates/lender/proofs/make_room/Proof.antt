@@ -31,7 +31,7 @@ use Rattle.lent.proofs.make_room.Symbol as g-def
 use Rattle.lent.proofs.make_room.Symbol.{name as #lent·make-room}
 use Rattle.lent.proofs.make_room.Met as g-thm
 use Rattle.lent.proofs.Held.{state-val, answer-val, step-val, state-typed, answer-typed, step-typed, hands, gone}
-use Rattle.lent.proofs.Walk.{by-walk, hears}
+use Rattle.lent.proofs.Walk.{clause, _and_, by-walk, hears, ends}
 use Rattle.lender.proofs.Loan.{step-of, step-is, step-name, answer-name, said-step, ref-at, lends-local, comes-back, puts-step}
 use Rattle.lender.proofs.make_room.Key.{name as #lender·make-room}
 use Rattle.lender.proofs.make_room as f
@@ -106,15 +106,11 @@ module _ {M : Type 1} (𝓤 : URA M) (H : Heap 𝓤) (A : Atoms 𝓤) (at-mem : 
     abbrev found : Step
     found = roomOf h (length ys)
 
-    abbrev Said : Answer → Stream → List ℕ → Type 0
-    Said a h′ zs = (a ≡ found .answer) × (h′ ≡ found .state) × (zs ≡ roomBuffer h ys)
-
     exits : Is T.the-row h (state-val h ∷ []) → (r : Step) (zs : List ℕ) → (r ≡ found) × (zs ≡ roomBuffer h ys) → length zs ≡ length ys → Is S.the-row r (step-val r ∷ [])
         → ent 𝓤 (⋆ 𝓤 H A (Tokens ∷ ‵ (finally u8 γ′ zs) ∷ [])) (Post (step-val r))
     exits was r zs e l is =
         qed W (Tokens ∷ ‵ (finally u8 γ′ zs) ∷ []) ∵
-        suffices ! _ (ends-at 𝓤 H A f.ended stayed (f.clauses 𝓤 H A at-mem run) W here (step-val r) r (tt, (zs, tt)) (tt, (l, tt))) $
-        says ! e $ frame ! $
+        ends 𝓤 H A f.ended stayed (f.clauses 𝓤 H A at-mem run) here ! (step-val r) r (tt, (zs, tt)) (tt, (l, tt)) (clause and clause) e $ frame ! $
         nothing ! $ move ! (1 ∷ 0 ∷ []) $ fjoin ! $ owned ! T.the-row (Is T.the-row) (LL.makes T.the-type T′.the-plain 𝓤 H A) h _ was $ fjoin ! $ frame ! $
         owned ! S.the-row (Is S.the-row) (LL.makes S.the-type S′.the-plain 𝓤 H A) r _ is $ done !
 
@@ -141,7 +137,7 @@ module _ {M : Type 1} (𝓤 : URA M) (H : Heap 𝓤) (A : Atoms 𝓤) (at-mem : 
           -- _4 = make_room(_5, _7)
           move ! (1 ∷ 20 ∷ []) $ join ! $ move ! (1 ∷ 0 ∷ 20 ∷ []) $ use3 W (raw (Callee .pre (to l₃ ν γ))) (goes l₃ ν γ) $
           calls-at ! fm Callee known (to l₃ ν γ) (hands ! 8 refl (hands ! 4 refl (no-more !))) (λ v.
-          hears 𝓤 H A g.ended (g.clauses 𝓤 H A at-mem run) (to l₃ ν γ) ! tt (λ a zs. Said a (zs .0) (zs .1 .0)) (λ a zs. id⊢ 𝓤 _) (λ a zs e.
+          hears 𝓤 H A g.ended (g.clauses 𝓤 H A at-mem run) (to l₃ ν γ) ! tt (λ _ _. clause and clause and clause) (λ a zs e.
           move ! (2 ∷ []) $ fsplit ! $ move ! (1 ∷ []) $ fsplit ! $ fsplit ! $ move ! (1 ∷ []) $ feqL ! (λ l. move ! (1 ∷ []) $ drop ! $ move ! (2 ∷ 3 ∷ 1 ∷ 4 ∷ []) $
           -- [the answer; the tokens; the last record; what waits; the last list; room for _8; …; down to room for _0; …]
           peeks ! N.the-row (Is N.the-row) (shows 𝓤 H A N.the-row) a (v ∷ []) (λ is.
@@ -158,7 +154,7 @@ module _ {M : Type 1} (𝓤 : URA M) (H : Heap 𝓤) (A : Atoms 𝓤) (at-mem : 
           returns ! (look ! 18 {τ = step-ty} refl) $
           move ! (18 ∷ 19 ∷ 16 ∷ 17 ∷ 14 ∷ 15 ∷ 0 ∷ 13 ∷ 11 ∷ 12 ∷ 9 ∷ 10 ∷ 7 ∷ 8 ∷ 5 ∷ 6 ∷ 3 ∷ 4 ∷ []) $
           gone ! $ gone ! $ gone ! $ gone ! $ gone ! $ gone ! $ gone ! $ gone ! $ gone ! $ free0 ! $
-          keep ! (0 ∷ 1 ∷ []) $ by ! (exits was r (zs .1 .0) (said-step found (e .0, e .1), e .2) l made))))))))))))))))
+          keep ! (0 ∷ 1 ∷ []) $ by ! (exits was r (zs .1 .0) (said-step found (e .0, e .1 .0), e .1 .1) l made))))))))))))))))
 
 pub make-room-spec : {M : Type 1} → stated.statement M
 unfolding code.routine

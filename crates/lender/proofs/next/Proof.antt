@@ -30,7 +30,7 @@ use Rattle.lent.proofs.next.Symbol as g-def
 use Rattle.lent.proofs.next.Symbol.{name as #lent·next}
 use Rattle.lent.proofs.next.Met as g-thm
 use Rattle.lent.proofs.Held.{state-val, answer-val, step-val, state-typed, answer-typed, step-typed, hands, gone}
-use Rattle.lent.proofs.Walk.{by-walk, hears}
+use Rattle.lent.proofs.Walk.{clause, _and_, by-walk, hears, ends}
 use Rattle.lender.proofs.Loan.{step-of, step-is, step-name, answer-name, said-step, ref-at, lends-local, comes-back, puts-step}
 use Rattle.lender.proofs.next.Key.{name as #lender·next}
 use Rattle.lender.proofs.next as f
@@ -99,14 +99,10 @@ module _ {M : Type 1} (𝓤 : URA M) (H : Heap 𝓤) (A : Atoms 𝓤) (at-mem : 
         qed W (Passed l ν γ) ∵
         nothing ! $ move ! (3 ∷ 0 ∷ []) $ fjoin ! $ move ! (1 ∷ 0 ∷ []) $ fjoin ! $ move ! (1 ∷ 0 ∷ []) $ join ! $ frame ! $ done !
 
-    abbrev Said : Answer → Stream → Type 0
-    Said a h′ = (a ≡ nextOf h (s .now) .answer) × (h′ ≡ nextOf h (s .now) .state)
-
     exits : Is T.the-row h (state-val h ∷ []) → (r : Step) → r ≡ nextOf h (s .now) → Is S.the-row r (step-val r ∷ []) → ent 𝓤 (⋆ 𝓤 H A (Tokens ∷ ‵ Own ∷ [])) (Post (step-val r))
     exits was r e is =
         qed W (Tokens ∷ ‵ Own ∷ []) ∵
-        suffices ! _ (ends-at 𝓤 H A f.ended stayed (f.clauses 𝓤 H A at-mem run) W here (step-val r) r (tt, (tt, tt)) (tt, (tt, tt))) $
-        says ! e $ frame ! $
+        ends 𝓤 H A f.ended stayed (f.clauses 𝓤 H A at-mem run) here ! (step-val r) r (tt, (tt, tt)) (tt, (tt, tt)) clause e $ frame ! $
         nothing ! $ move ! (1 ∷ 0 ∷ []) $ fjoin ! $ owned ! T.the-row (Is T.the-row) (LL.makes T.the-type T′.the-plain 𝓤 H A) h _ was $ fjoin ! $ frame ! $
         owned ! S.the-row (Is S.the-row) (LL.makes S.the-type S′.the-plain 𝓤 H A) r _ is $ done !
 
@@ -128,7 +124,7 @@ module _ {M : Type 1} (𝓤 : URA M) (H : Heap 𝓤) (A : Atoms 𝓤) (at-mem : 
           -- _4 = next(_5, _2)
           move ! (1 ∷ 16 ∷ []) $ join ! $ move ! (1 ∷ 0 ∷ 16 ∷ []) $ use3 W (raw (Callee .pre (to l₃ ν γ))) (goes l₃ ν γ) $
           calls-at ! fm Callee known (to l₃ ν γ) (hands ! 4 refl (hands ! 9 refl (no-more !))) (λ v.
-          hears 𝓤 H A g.ended (g.clauses 𝓤 H A at-mem run) (to l₃ ν γ) ! tt (λ a zs. Said a (zs .0)) (λ a zs. id⊢ 𝓤 _) (λ a zs e.
+          hears 𝓤 H A g.ended (g.clauses 𝓤 H A at-mem run) (to l₃ ν γ) ! tt (λ _ _. clause and clause) (λ a zs e.
           move ! (2 ∷ []) $ fsplit ! $ move ! (1 ∷ []) $ drop ! $ move ! (1 ∷ 2 ∷ []) $
           -- [the answer; the tokens; the last record; what waits; room for _6; …; _5; …; _4; …; (of _3) …; _2; …; _1; …; room for _0; …; what buf owns]
           peeks ! N.the-row (Is N.the-row) (shows 𝓤 H A N.the-row) a (v ∷ []) (λ is.

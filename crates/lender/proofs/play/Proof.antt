@@ -35,7 +35,7 @@ use Rattle.lent.proofs.play_on.Symbol as g-def
 use Rattle.lent.proofs.play_on.Symbol.{name as #lent·play-on}
 use Rattle.lent.proofs.play_on.Met as g-thm
 use Rattle.lent.proofs.Held.{state-val, num-val, num, state-typed, hands, gone, adds-num}
-use Rattle.lent.proofs.Walk.{by-walk, hears}
+use Rattle.lent.proofs.Walk.{clause, _and_, by-walk, hears, ends}
 use Rattle.lender.proofs.Loan.{ref-at, lends-local, comes-back}
 use Rattle.lender.proofs.play.Key.{name as #lender·play}
 use Rattle.lender.proofs.play as f
@@ -191,9 +191,6 @@ module _ {M : Type 1} (𝓤 : URA M) (H : Heap 𝓤) (A : Atoms 𝓤) (at-mem : 
     abbrev found : Out
     found = playOf (y .now) w h ys n
 
-    abbrev Said : Reach → Stream → List ℕ → Type 0
-    Said r h′ zs = (r .at ≡ found .played .at) × (r .answer ≡ found .played .answer) × (h′ ≡ found .played .state) × (zs ≡ found .buffer)
-
     -- what is had in the end
     abbrev Left : List ℕ → List (Item 𝓤)
     Left zs = Tokens ∷ ‵ (finally u8 γ′ zs) ∷ ‵ Shr ∷ []
@@ -202,8 +199,7 @@ module _ {M : Type 1} (𝓤 : URA M) (H : Heap 𝓤) (A : Atoms 𝓤) (at-mem : 
         → Is S.the-row r (played-val r ∷ []) → ent 𝓤 (⋆ 𝓤 H A (Left zs)) (Post (played-val r))
     exits was r zs e l is =
         qed W (Left zs) ∵
-        suffices ! _ (ends-at 𝓤 H A f.ended stayed (f.clauses 𝓤 H A at-mem run) W here (played-val r) r (tt, (zs, (tt, (tt, (tt, tt))))) (tt, (l, (tt, (tt, (tt, tt)))))) $
-        says ! e $ frame ! $
+        ends 𝓤 H A f.ended stayed (f.clauses 𝓤 H A at-mem run) here ! (played-val r) r (tt, (zs, (tt, (tt, (tt, tt))))) (tt, (l, (tt, (tt, (tt, tt))))) (clause and clause) e $ frame ! $
         nothing ! $ adds-num ! w w-fits $ adds-num ! n n-fits $ move ! (2 ∷ 0 ∷ []) $ fjoin ! $ move ! (1 ∷ 0 ∷ []) $ fjoin ! $
         owned ! T.the-row (Is T.the-row) (LL.makes T.the-type T′.the-plain 𝓤 H A) h _ was $ fjoin ! $ frame ! $
         owned ! S.the-row (Is S.the-row) (LL.makes S.the-type S′.the-plain 𝓤 H A) r _ is $ done !
@@ -236,7 +232,7 @@ module _ {M : Type 1} (𝓤 : URA M) (H : Heap 𝓤) (A : Atoms 𝓤) (at-mem : 
           -- what buf owns; what src owns, twice]: _7 = play_on(_8, _10, _3, _4, _5)
           move ! (1 ∷ 26 ∷ []) $ join ! $ move ! (26 ∷ 27 ∷ []) $ join ! $ move ! (2 ∷ 1 ∷ 0 ∷ []) $ use3 W (raw (Callee .pre (to l₆ ν γ))) (goes l₆ ν γ) $
           calls-at ! fm Callee known (to l₆ ν γ) (hands ! 8 refl (hands ! 4 refl (hands ! 17 refl (hands ! 15 refl (hands ! 13 refl (no-more !)))))) (λ v.
-          hears 𝓤 H A g.ended (g.clauses 𝓤 H A at-mem run) (to l₆ ν γ) ! tt (λ r zs. Said r (zs .0) (zs .1 .0)) (λ r zs. id⊢ 𝓤 _) (λ r zs e.
+          hears 𝓤 H A g.ended (g.clauses 𝓤 H A at-mem run) (to l₆ ν γ) ! tt (λ _ _. clause and clause and clause and clause) (λ r zs e.
           move ! (2 ∷ []) $ fsplit ! $ move ! (1 ∷ []) $ fsplit ! $ fsplit ! $ move ! (1 ∷ []) $ feqL ! (λ l. move ! (1 ∷ []) $ drop ! $ move ! (2 ∷ 3 ∷ 1 ∷ 4 ∷ []) $
           -- [what a Reach owns; the tokens; the last record; what waits; the last list; room for _11; …; down to room for _0; …; what src owns]
           peeks ! Q.the-row (Is Q.the-row) (shows 𝓤 H A Q.the-row) r (v ∷ []) (λ is.
@@ -256,7 +252,7 @@ module _ {M : Type 1} (𝓤 : URA M) (H : Heap 𝓤) (A : Atoms 𝓤) (at-mem : 
           returns ! (look ! 24 {τ = played-ty} refl) $
           move ! (24 ∷ 25 ∷ 22 ∷ 23 ∷ 20 ∷ 21 ∷ 18 ∷ 19 ∷ 16 ∷ 17 ∷ 14 ∷ 15 ∷ 0 ∷ 13 ∷ 11 ∷ 12 ∷ 9 ∷ 10 ∷ 7 ∷ 8 ∷ 5 ∷ 6 ∷ 3 ∷ 4 ∷ []) $
           gone ! $ gone ! $ gone ! $ gone ! $ gone ! $ gone ! $ gone ! $ gone ! $ gone ! $ gone ! $ gone ! $ gone ! $ free0 ! $
-          keep ! (0 ∷ 1 ∷ 2 ∷ []) $ by ! (exits was played (zs .1 .0) (said-played (found .played) (e .0) (e .1) (e .2), e .3) l made)))))))))))))))))))
+          keep ! (0 ∷ 1 ∷ 2 ∷ []) $ by ! (exits was played (zs .1 .0) (said-played (found .played) (e .0) (e .1 .0) (e .1 .1 .0), e .1 .1 .1) l made)))))))))))))))))))
 
 pub play-spec : {M : Type 1} → stated.statement M
 unfolding code.routine

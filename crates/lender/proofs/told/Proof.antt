@@ -30,7 +30,7 @@ use Rattle.lent.proofs.told.Symbol as g-def
 use Rattle.lent.proofs.told.Symbol.{name as #lent·told}
 use Rattle.lent.proofs.told.Met as g-thm
 use Rattle.lent.proofs.Held.{state-val, answer-val, step-val, num-val, num, state-typed, answer-typed, step-typed, hands, gone, adds-num}
-use Rattle.lent.proofs.Walk.{by-walk, hears}
+use Rattle.lent.proofs.Walk.{clause, _and_, by-walk, hears, ends}
 use Rattle.lender.proofs.Loan.{step-of, step-is, step-name, answer-name, said-step, ref-at, lends-local, comes-back, puts-step}
 use Rattle.lender.proofs.told.Key.{name as #lender·told}
 use Rattle.lender.proofs.told as f
@@ -85,14 +85,10 @@ module _ {M : Type 1} (𝓤 : URA M) (H : Heap 𝓤) (A : Atoms 𝓤) (at-mem : 
         qed W (ref-at 𝓤 (ν ∷ []) l 0 γ h ∷ ‵ (flft (ν ∷ []) fullShare) ∷ []) ∵
         nothing ! $ adds-num ! n n-fits $ move ! (1 ∷ 0 ∷ []) $ fjoin ! $ nothing ! $ move ! (2 ∷ 0 ∷ []) $ join ! $ move ! (0 ∷ 1 ∷ []) $ join ! $ frame ! $ done !
 
-    abbrev Said : Answer → Stream → Type 0
-    Said a h′ = (a ≡ toldOf h n .answer) × (h′ ≡ toldOf h n .state)
-
     exits : Is T.the-row h (state-val h ∷ []) → (r : Step) → r ≡ toldOf h n → Is S.the-row r (step-val r ∷ []) → ent 𝓤 (⋆ 𝓤 H A (‵ ftrue ∷ [])) (Post (step-val r))
     exits was r e is =
         qed W (‵ ftrue ∷ []) ∵
-        suffices ! _ (ends-at 𝓤 H A f.ended stayed (f.clauses 𝓤 H A at-mem run) W here (step-val r) r (tt, (tt, tt)) (tt, (tt, tt))) $
-        says ! e $ frame ! $
+        ends 𝓤 H A f.ended stayed (f.clauses 𝓤 H A at-mem run) here ! (step-val r) r (tt, (tt, tt)) (tt, (tt, tt)) clause e $ frame ! $
         nothing ! $ adds-num ! n n-fits $ owned ! T.the-row (Is T.the-row) (LL.makes T.the-type T′.the-plain 𝓤 H A) h _ was $ fjoin ! $ frame ! $
         owned ! S.the-row (Is S.the-row) (LL.makes S.the-type S′.the-plain 𝓤 H A) r _ is $ done !
 
@@ -111,7 +107,7 @@ module _ {M : Type 1} (𝓤 : URA M) (H : Heap 𝓤) (A : Atoms 𝓤) (at-mem : 
           -- [the reference; the token; what waits; room for _6; …; _5; …; _4; …; (of _3) …; _2; …; _1; …; room for _0; …]: _4 = told(_5, _2)
           use2 W (raw (Callee .pre (to l₃ ν γ))) (goes l₃ ν γ) $
           calls-at ! fm Callee known (to l₃ ν γ) (hands ! 4 refl (hands ! 9 refl (no-more !))) (λ v.
-          hears 𝓤 H A g.ended (g.clauses 𝓤 H A at-mem run) (to l₃ ν γ) ! tt (λ a zs. Said a (zs .0)) (λ a zs. id⊢ 𝓤 _) (λ a zs e.
+          hears 𝓤 H A g.ended (g.clauses 𝓤 H A at-mem run) (to l₃ ν γ) ! tt (λ _ _. clause and clause) (λ a zs e.
           move ! (2 ∷ []) $ fsplit ! $ move ! (1 ∷ []) $ drop ! $ move ! (1 ∷ 2 ∷ []) $
           -- [the answer; the token; the last record; what waits; room for _6; …; _5; …; _4; …; (of _3) …; _2; …; _1; …; room for _0; …]
           peeks ! N.the-row (Is N.the-row) (shows 𝓤 H A N.the-row) a (v ∷ []) (λ is.

@@ -30,7 +30,7 @@ use Rattle.lent.proofs.told_failed.Symbol as g-def
 use Rattle.lent.proofs.told_failed.Symbol.{name as #lent·told-failed}
 use Rattle.lent.proofs.told_failed.Met as g-thm
 use Rattle.lent.proofs.Held.{state-val, answer-val, step-val, state-typed, answer-typed, step-typed, hands, gone}
-use Rattle.lent.proofs.Walk.{by-walk, hears}
+use Rattle.lent.proofs.Walk.{clause, _and_, by-walk, hears, ends}
 use Rattle.lender.proofs.Loan.{step-of, step-is, step-name, answer-name, said-step, ref-at, lends-local, comes-back, puts-step}
 use Rattle.lender.proofs.told_failed.Key.{name as #lender·told-failed}
 use Rattle.lender.proofs.told_failed as f
@@ -79,14 +79,10 @@ module _ {M : Type 1} (𝓤 : URA M) (H : Heap 𝓤) (A : Atoms 𝓤) (at-mem : 
         qed W (ref-at 𝓤 (ν ∷ []) l 0 γ h ∷ ‵ (flft (ν ∷ []) fullShare) ∷ []) ∵
         nothing ! $ move ! (1 ∷ 0 ∷ []) $ fjoin ! $ nothing ! $ move ! (2 ∷ 0 ∷ []) $ join ! $ move ! (0 ∷ 1 ∷ []) $ join ! $ frame ! $ done !
 
-    abbrev Said : Answer → Stream → Type 0
-    Said a h′ = (a ≡ failedOf h .answer) × (h′ ≡ failedOf h .state)
-
     exits : Is T.the-row h (state-val h ∷ []) → (r : Step) → r ≡ failedOf h → Is S.the-row r (step-val r ∷ []) → ent 𝓤 (⋆ 𝓤 H A (‵ ftrue ∷ [])) (Post (step-val r))
     exits was r e is =
         qed W (‵ ftrue ∷ []) ∵
-        suffices ! _ (ends-at 𝓤 H A f.ended stayed (f.clauses 𝓤 H A at-mem run) W here (step-val r) r (tt, tt) (tt, tt)) $
-        says ! e $ frame ! $
+        ends 𝓤 H A f.ended stayed (f.clauses 𝓤 H A at-mem run) here ! (step-val r) r (tt, tt) (tt, tt) clause e $ frame ! $
         nothing ! $ owned ! T.the-row (Is T.the-row) (LL.makes T.the-type T′.the-plain 𝓤 H A) h _ was $ fjoin ! $ frame ! $
         owned ! S.the-row (Is S.the-row) (LL.makes S.the-type S′.the-plain 𝓤 H A) r _ is $ done !
 
@@ -104,7 +100,7 @@ module _ {M : Type 1} (𝓤 : URA M) (H : Heap 𝓤) (A : Atoms 𝓤) (at-mem : 
           -- [the reference; the token; what waits; room for _5; …; _4; …; _3; …; (of _2) …; _1; …; room for _0; …]: _3 = told_failed(_4)
           use2 W (raw (Callee .pre (to l₂ ν γ))) (goes l₂ ν γ) $
           calls-at ! fm Callee known (to l₂ ν γ) (hands ! 4 refl (no-more !)) (λ v.
-          hears 𝓤 H A g.ended (g.clauses 𝓤 H A at-mem run) (to l₂ ν γ) ! tt (λ a zs. Said a (zs .0)) (λ a zs. id⊢ 𝓤 _) (λ a zs e.
+          hears 𝓤 H A g.ended (g.clauses 𝓤 H A at-mem run) (to l₂ ν γ) ! tt (λ _ _. clause and clause) (λ a zs e.
           move ! (2 ∷ []) $ fsplit ! $ move ! (1 ∷ []) $ drop ! $ move ! (1 ∷ 2 ∷ []) $
           -- [the answer; the token; the last record; what waits; room for _5; …; _4; …; _3; …; (of _2) …; _1; …; room for _0; …]
           peeks ! N.the-row (Is N.the-row) (shows 𝓤 H A N.the-row) a (v ∷ []) (λ is.
