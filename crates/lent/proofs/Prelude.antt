@@ -13,11 +13,11 @@ pub use base.Fml.{GName, Lft, Share, ftrue, fat, flft, Fml}
 pub use prog.Memory.{Memory}
 pub use prog.Routine.{Routine}
 pub use prog.Wp.{Heap, Calls, Loops, WpFn}
-pub use ghost.Atoms.{Atoms, sem}
+pub use ghost.Atoms.{Atoms}
 pub use contract.Monad.{Fun}
 pub use contract.Running.{givenOf, tables}
 pub use types.Kit.{Item, Given, ‵, raw, _⊛_, _$_, _∵_, !, qed, by, move, keep, drop, use0, use1, use2, use3}
-pub use types.Kit.{split, join, rewrite, fsplit, fsplit3, fjoin, fjoin3, feqI, feqL, suffices, frame, done, ⋆}
+pub use types.Kit.{split, join, rewrite, fsplit, fsplit3, fjoin, fjoin3, feqI, feqL, frame, done, ⋆}
 pub use types.Run.{look, init, stop, hop, fld, from, load, of-opd, and-then, no-more, assigns, land, returns, enter, alloc1, alloc0, params1, pass1, pass0, free0, addr}
 pub use types.Part.{whole, sub, look-in, agg}
 pub use sound.WpLaws.{FmC}
@@ -31,7 +31,7 @@ pub use denote.Triple.Call.{calls-at}
 pub use denote.Triple.Entry.{onEntry}
 pub use denote.Triple.Spec.{tripleOf}
 pub use denote.Triple.Table.{cited}
-pub use denote.Triple.Walked.{says, Stays, stay-ref, walkOf, goes-ref, ends-at, stay-none, goes-none, stay-none-slice, goes-none-slice, gave-slice, goes-gave-slice}
+pub use denote.Triple.Walked.{Stays, stay-ref, walkOf, goes-ref, stay-none, goes-none, stay-none-slice, goes-none-slice, gave-slice, goes-gave-slice}
 pub use denote.Exit.{yes}
 pub use denote.Builtin.{usize, u8}
 pub use denote.Plain.{uint-vals, uint-tells}

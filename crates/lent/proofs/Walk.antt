@@ -114,9 +114,9 @@ module _ {M : Type 1} (𝓤 : URA M) (H : Heap 𝓤) (A : Atoms 𝓤) (T : Ended
 
   module _ {K : Type 0} {W : Given 𝓤 H A} {Γ : List (Item 𝓤)} where
     -- The walk ends, at a result and at last values that fit: the facts that the function ensures of them are shown, and what the types own is left.
-    pub ends : K → (v : Val) (r : Result 𝓤 H A T c y) (ws : Last 𝓤 H A T c y) → Fit T hs (y .0 .0) (y .0 .3) ws
+    pub walk-ends : K → (v : Val) (r : Result 𝓤 H A T c y) (ws : Last 𝓤 H A T c y) → Fit T hs (y .0 .0) (y .0 .3) ws
         → {φ : Type 0} → Facts 𝓤 (Ensured 𝓤 H A T c y r ws) φ → φ → Stepping K W Γ (prop (Had v r ws)) Γ (prop (walkOf 𝓤 H A T hs c .post y v))
-    ends t v r ws fits says e =
+    walk-ends t v r ws fits says e =
         let had = Had v r ws in
         let said = Ensured 𝓤 H A T c y r ws in
         suffices t had (via 𝓤 (Ending 𝓤 H A T hs c y v r ws)

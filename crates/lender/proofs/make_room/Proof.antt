@@ -1,12 +1,10 @@
 -- `lender::make_room` meets its contract: a walk of its MIR, by hand, as `told_failed`'s, with a slice besides, which is given up to the call for good.
 -- Assumes nothing.
-use Rattle.lent.proofs.Prelude.{_≡_, refl, ap, ℕ, [], _∷_, List, length}
-use Rattle.lent.proofs.Prelude.{URA, fullShare, named, Val, vptr, SProp, ent, id⊢, GName, Lft, Share, ftrue, fat, flft, Fml}
+use Rattle.lent.proofs.Prelude.{_≡_, refl, ap, ℕ, [], _∷_, List, length, URA, fullShare, named, Val, vptr, SProp, ent, id⊢, GName, Lft, Share, ftrue, fat, flft, Fml}
 use Rattle.lent.proofs.Prelude.{Memory, Routine, Heap, Calls, Loops, WpFn, Atoms, Fun, givenOf, tables, FmC}
-use Rattle.lent.proofs.Prelude.{Item, Given, ‵, raw, _⊛_, _$_, _∵_, !, qed, by, move, keep, drop, use1, use3, split, join, rewrite, fsplit, fjoin, suffices}
-use Rattle.lent.proofs.Prelude.{frame, done, ⋆}
+use Rattle.lent.proofs.Prelude.{Item, Given, ‵, raw, _⊛_, _$_, _∵_, !, qed, by, move, keep, drop, use1, use3, join, rewrite, fsplit, fjoin, frame, done, ⋆}
 use Rattle.lent.proofs.Prelude.{look, init, stop, from, load, of-opd, no-more, assigns, land, returns, enter, alloc1, alloc0, params1, pass1, pass0, free0}
-use Rattle.lent.proofs.Prelude.{addr, owns, Is, shows, only, owned, peeks, nothing, Contract, Triple, calls-at, onEntry, tripleOf, cited, says, Stays, walkOf, ends-at}
+use Rattle.lent.proofs.Prelude.{addr, owns, Is, shows, only, owned, peeks, nothing, Contract, Triple, calls-at, onEntry, tripleOf, cited, Stays, walkOf}
 use Rattle.lent.proofs.Prelude.{stay-none, goes-none, yes, gave-slice, goes-gave-slice, plain, RefT, u8, sliceVal, slice-vals, MutSlice, Room, finally, mut-slice-tells}
 use Rattle.lent.proofs.Prelude.{feqL, fld, hop, look-in, sub, whole, agg, and-then}
 use mathlib.Core.Path.{subst}
@@ -31,7 +29,7 @@ use Rattle.lent.proofs.make_room.Symbol as g-def
 use Rattle.lent.proofs.make_room.Symbol.{name as #lent·make-room}
 use Rattle.lent.proofs.make_room.Met as g-thm
 use Rattle.lent.proofs.Held.{state-val, answer-val, step-val, state-typed, answer-typed, step-typed, hands, gone}
-use Rattle.lent.proofs.Walk.{clause, _and_, by-walk, hears, ends}
+use Rattle.lent.proofs.Walk.{clause, _and_, by-walk, hears, walk-ends}
 use Rattle.lender.proofs.Loan.{step-of, step-is, step-name, answer-name, said-step, ref-at, lends-local, comes-back, puts-step}
 use Rattle.lender.proofs.make_room.Key.{name as #lender·make-room}
 use Rattle.lender.proofs.make_room as f
@@ -110,7 +108,7 @@ module _ {M : Type 1} (𝓤 : URA M) (H : Heap 𝓤) (A : Atoms 𝓤) (at-mem : 
         → ent 𝓤 (⋆ 𝓤 H A (Tokens ∷ ‵ (finally u8 γ′ zs) ∷ [])) (Post (step-val r))
     exits was r zs e l is =
         qed W (Tokens ∷ ‵ (finally u8 γ′ zs) ∷ []) ∵
-        ends 𝓤 H A f.ended stayed (f.clauses 𝓤 H A at-mem run) here ! (step-val r) r (tt, (zs, tt)) (tt, (l, tt)) (clause and clause) e $ frame ! $
+        walk-ends 𝓤 H A f.ended stayed (f.clauses 𝓤 H A at-mem run) here ! (step-val r) r (tt, (zs, tt)) (tt, (l, tt)) (clause and clause) e $ frame ! $
         nothing ! $ move ! (1 ∷ 0 ∷ []) $ fjoin ! $ owned ! T.the-row (Is T.the-row) (LL.makes T.the-type T′.the-plain 𝓤 H A) h _ was $ fjoin ! $ frame ! $
         owned ! S.the-row (Is S.the-row) (LL.makes S.the-type S′.the-plain 𝓤 H A) r _ is $ done !
 

@@ -3,11 +3,10 @@
 use Rattle.lent.proofs.Prelude.{_≡_, refl, ap, ℕ, zero, _+_, _<_, _^_, [], _∷_, List, length}
 use Rattle.lent.proofs.Prelude.{URA, fullShare, named, w64, Val, vptr, vint, SProp, ent, id⊢, GName, Lft, Share, ftrue, fat, flft, Fml}
 use Rattle.lent.proofs.Prelude.{Memory, Routine, Heap, Calls, Loops, WpFn, Atoms, Fun, givenOf, tables, FmC}
-use Rattle.lent.proofs.Prelude.{Item, Given, ‵, raw, _⊛_, _$_, _∵_, !, qed, by, move, keep, drop, use1, use3, split, join, rewrite, fsplit, fjoin, feqL, suffices}
-use Rattle.lent.proofs.Prelude.{frame, done, ⋆}
+use Rattle.lent.proofs.Prelude.{Item, Given, ‵, raw, _⊛_, _$_, _∵_, !, qed, by, move, keep, drop, use1, use3, split, join, rewrite, fsplit, fjoin, feqL, frame, done, ⋆}
 use Rattle.lent.proofs.Prelude.{look, init, stop, hop, fld, from, load, of-opd, and-then, no-more, assigns, land, returns, enter, alloc1, alloc0, params1, pass1, pass0}
 use Rattle.lent.proofs.Prelude.{free0, addr, agg, whole, sub, look-in, owns, Is, shows, only, owned, peeks, nothing, Contract, Triple, calls-at, onEntry, tripleOf, cited}
-use Rattle.lent.proofs.Prelude.{says, Stays, walkOf, ends-at, stay-none, goes-none, yes, stay-none-slice, goes-none-slice, gave-slice, goes-gave-slice, plain, RefT, usize, u8}
+use Rattle.lent.proofs.Prelude.{Stays, walkOf, stay-none, goes-none, yes, stay-none-slice, goes-none-slice, gave-slice, goes-gave-slice, plain, RefT, usize, u8}
 use Rattle.lent.proofs.Prelude.{uint-vals, uint-tells, sliceVal, ShrSlice, slice-vals, shr-slice-tells, shr-slice-lawful, shr-slice-copy, MutSlice, Room, finally, mut-slice-tells}
 use mathlib.Core.Path.{_∙_}
 use mathlib.Core.Option.{some as found-at}
@@ -35,7 +34,7 @@ use Rattle.lent.proofs.play_on.Symbol as g-def
 use Rattle.lent.proofs.play_on.Symbol.{name as #lent·play-on}
 use Rattle.lent.proofs.play_on.Met as g-thm
 use Rattle.lent.proofs.Held.{state-val, num-val, num, state-typed, hands, gone, adds-num}
-use Rattle.lent.proofs.Walk.{clause, _and_, by-walk, hears, ends}
+use Rattle.lent.proofs.Walk.{clause, _and_, by-walk, hears, walk-ends}
 use Rattle.lender.proofs.Loan.{ref-at, lends-local, comes-back}
 use Rattle.lender.proofs.play.Key.{name as #lender·play}
 use Rattle.lender.proofs.play as f
@@ -199,7 +198,8 @@ module _ {M : Type 1} (𝓤 : URA M) (H : Heap 𝓤) (A : Atoms 𝓤) (at-mem : 
         → Is S.the-row r (played-val r ∷ []) → ent 𝓤 (⋆ 𝓤 H A (Left zs)) (Post (played-val r))
     exits was r zs e l is =
         qed W (Left zs) ∵
-        ends 𝓤 H A f.ended stayed (f.clauses 𝓤 H A at-mem run) here ! (played-val r) r (tt, (zs, (tt, (tt, (tt, tt))))) (tt, (l, (tt, (tt, (tt, tt))))) (clause and clause) e $ frame ! $
+        walk-ends 𝓤 H A f.ended stayed (f.clauses 𝓤 H A at-mem run) here ! (played-val r) r (tt, (zs, (tt, (tt, (tt, tt))))) (tt, (l, (tt, (tt, (tt, tt)))))
+        (clause and clause) e $ frame ! $
         nothing ! $ adds-num ! w w-fits $ adds-num ! n n-fits $ move ! (2 ∷ 0 ∷ []) $ fjoin ! $ move ! (1 ∷ 0 ∷ []) $ fjoin ! $
         owned ! T.the-row (Is T.the-row) (LL.makes T.the-type T′.the-plain 𝓤 H A) h _ was $ fjoin ! $ frame ! $
         owned ! S.the-row (Is S.the-row) (LL.makes S.the-type S′.the-plain 𝓤 H A) r _ is $ done !

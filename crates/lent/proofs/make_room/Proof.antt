@@ -1,15 +1,14 @@
 -- `lent::make_room` meets its contract: a walk of its MIR, by hand, as `told_failed`'s. Start, end, the read calls and the slice, which is given up to it for good, are
 -- passed to `room_on`; start, end and the read calls are stored back.
 -- Assumes nothing.
-use Rattle.lent.proofs.Prelude.{_≡_, refl, ℕ, [], _∷_, List, length}
-use Rattle.lent.proofs.Prelude.{URA, named, Val, vptr, SProp, ent, id⊢, GName, Lft, Share, ftrue, flft, Fml}
+use Rattle.lent.proofs.Prelude.{_≡_, refl, ℕ, [], _∷_, List, length, URA, named, Val, vptr, SProp, ent, GName, Lft, Share, ftrue, flft, Fml}
 use Rattle.lent.proofs.Prelude.{Memory, Routine, Heap, Calls, Loops, WpFn, Atoms, Fun, givenOf, tables, FmC}
 use Rattle.lent.proofs.Prelude.{Item, Given, ‵, raw, _⊛_, _$_, _∵_, !, qed, by, move, keep, drop, use2, split, join, fsplit, fsplit3, fjoin, fjoin3}
-use Rattle.lent.proofs.Prelude.{feqI, suffices, frame, done, ⋆, feqL}
+use Rattle.lent.proofs.Prelude.{feqI, frame, done, ⋆, feqL}
 use Rattle.lent.proofs.Prelude.{look, init, stop, hop, fld, from, load, and-then, no-more, assigns, returns, enter, alloc1, alloc0, params1, pass1}
 use Rattle.lent.proofs.Prelude.{pass0, free0, addr, whole, sub, look-in, agg}
 use Rattle.lent.proofs.Prelude.{owns, Is, shows, RefT, MutRef, ptr-vals, mut-tells, plain, peeks, nothing, Contract, Triple, calls-at, onEntry, tripleOf}
-use Rattle.lent.proofs.Prelude.{cited, says, Stays, stay-ref, walkOf, goes-ref, ends-at, gave-slice, goes-gave-slice, u8, sliceVal, slice-vals, MutSlice}
+use Rattle.lent.proofs.Prelude.{cited, Stays, stay-ref, walkOf, goes-ref, gave-slice, goes-gave-slice, u8, sliceVal, slice-vals, MutSlice}
 use Rattle.lent.proofs.Prelude.{Room, finally, mut-slice-tells}
 use Rattle.stream.specs.Room.{roomOf, roomBuffer}
 use Rattle.stream.specs.declared.Stream.{Stream}
@@ -25,7 +24,7 @@ use Rattle.lent.proofs.room_on.Met as g-thm
 use Rattle.lent.proofs.Apart.{room-parts, room-into, room-back}
 use Rattle.lent.proofs.Held.{answer-val, InRange, fits, made, num-val, num, changed, answer-is, lent-at, opens-stream, closes-stream, owns-answer, loads}
 use Rattle.lent.proofs.Held.{stores, lands-step, answers, in-state, hands, gone, adds-num}
-use Rattle.lent.proofs.Walk.{clause, _and_, by-walk, hears, ends}
+use Rattle.lent.proofs.Walk.{clause, _and_, by-walk, hears, walk-ends}
 use Rattle.lent.proofs.make_room.Key.{name as #lent·make-room}
 use Rattle.lent.proofs.make_room as f
 use Rattle.lent.proofs.make_room.Statement as stated
@@ -66,15 +65,12 @@ module _ {M : Type 1} (𝓤 : URA M) (H : Heap 𝓤) (A : Atoms 𝓤) (at-mem : 
     abbrev Post : Val → SProp 𝓤
     Post = Walked .post here
 
-    -- what the callee is passed, and what it ensures of a result and a last list
+    -- what the callee is passed
     abbrev args : ℕ × (ℕ × (ℕ × (RefT (List ℕ) × Unit {0})))
     args = (h .start, (h .end, (h .«read_calls», (s, tt))))
 
     abbrev to : Callee .Ghost
     to = (((κ′, tt), (q′, tt), tt, args, (num-val (h .start), (num-val (h .end), (num-val (h .«read_calls»), (sv ∷ [], tt))))), tt)
-
-    abbrev Said : Step → List ℕ → Type 0
-    Said r zs = (r ≡ roomOf (room-parts h) (length ys)) × (zs ≡ roomBuffer (room-parts h) ys)
 
     goes : InRange h → ent 𝓤 (⋆ 𝓤 H A ((‵ (flft κ′ q′) ⊛ ‵ ftrue) ∷ ‵ Own ∷ [])) (Callee .pre to)
     goes p =
@@ -92,11 +88,12 @@ module _ {M : Type 1} (𝓤 : URA M) (H : Heap 𝓤) (A : Atoms 𝓤) (at-mem : 
     abbrev Left : Step → List ℕ → List (Item 𝓤)
     Left r zs = lent-at 𝓤 κ q b o γ (room-into h r) ((‵ (flft κ′ q′) ⊛ ‵ ftrue) ∷ ‵ (finally u8 γ′ zs) ∷ [])
 
-    exits : (r : Step) (zs : List ℕ) → Said r zs → length zs ≡ length ys → Is N.the-row (r .answer) (answer-val (r .answer) ∷ [])
+    exits : (r : Step) (zs : List ℕ) → (r ≡ roomOf (room-parts h) (length ys)) × (zs ≡ roomBuffer (room-parts h) ys)
+        → length zs ≡ length ys → Is N.the-row (r .answer) (answer-val (r .answer) ∷ [])
         → ent 𝓤 (⋆ 𝓤 H A (Left r zs)) (Post (answer-val (r .answer)))
     exits r zs e l is =
         qed W (Left r zs) ∵
-        ends 𝓤 H A f.ended stayed (f.clauses 𝓤 H A at-mem run) here ! (answer-val (r .answer)) (r .answer) (room-into h r, (zs, tt)) (tt, (l, tt))
+        walk-ends 𝓤 H A f.ended stayed (f.clauses 𝓤 H A at-mem run) here ! (answer-val (r .answer)) (r .answer) (room-into h r, (zs, tt)) (tt, (l, tt))
         (clause and clause and clause) (room-back h ys r zs e) $
         move ! (2 ∷ 3 ∷ []) $ join ! $ frame ! $
         feqI ! (List Val) (vptr b o ∷ []) (vptr b o ∷ []) refl $ fjoin3 ! $

@@ -1,14 +1,13 @@
 -- `lent::next` meets its contract: a walk of its MIR, by hand, as `told_failed`'s. Start, end, the messages, the mark and the slice are passed to `next_on`; start, the
 -- messages and the mark are stored back.
 -- Assumes nothing.
-use Rattle.lent.proofs.Prelude.{_≡_, refl, ℕ, Bool, [], _∷_, List, length}
-use Rattle.lent.proofs.Prelude.{URA, named, Val, vptr, vbool, SProp, ent, id⊢, GName, Lft, Share, ftrue, flft, Fml}
+use Rattle.lent.proofs.Prelude.{_≡_, refl, ℕ, Bool, [], _∷_, List, length, URA, named, Val, vptr, vbool, SProp, ent, GName, Lft, Share, ftrue, flft, Fml}
 use Rattle.lent.proofs.Prelude.{Memory, Routine, Heap, Calls, Loops, WpFn, Atoms, Fun, givenOf, tables, FmC}
 use Rattle.lent.proofs.Prelude.{Item, Given, ‵, raw, _⊛_, _$_, _∵_, !, qed, by, move, keep, drop, use1, use2, split, join, fsplit, fsplit3, fjoin}
-use Rattle.lent.proofs.Prelude.{fjoin3, feqI, suffices, frame, done, ⋆}
+use Rattle.lent.proofs.Prelude.{fjoin3, feqI, frame, done, ⋆}
 use Rattle.lent.proofs.Prelude.{look, init, stop, fld, from, no-more, returns, enter, alloc1, alloc0, params1, pass1, pass0, free0, look-in}
 use Rattle.lent.proofs.Prelude.{owns, Is, shows, RefT, MutRef, ptr-vals, mut-tells, plain, peeks, nothing, Contract, Triple, calls-at, onEntry, tripleOf}
-use Rattle.lent.proofs.Prelude.{cited, says, Stays, stay-ref, walkOf, goes-ref, ends-at, stay-none-slice, goes-none-slice, yes, u8, sliceVal, ShrSlice}
+use Rattle.lent.proofs.Prelude.{cited, Stays, stay-ref, walkOf, goes-ref, stay-none-slice, goes-none-slice, yes, u8, sliceVal, ShrSlice}
 use Rattle.lent.proofs.Prelude.{slice-vals, shr-slice-tells, shr-slice-lawful, shr-slice-copy}
 use Rattle.stream.specs.Next.{nextOf}
 use Rattle.stream.specs.declared.Stream.{Stream}
@@ -24,7 +23,7 @@ use Rattle.lent.proofs.next_on.Met as g-thm
 use Rattle.lent.proofs.Apart.{next-parts, next-into, next-back}
 use Rattle.lent.proofs.Held.{answer-val, InRange, fits, made, num-val, num, changed, answer-is, lent-at, opens-stream, closes-stream, owns-answer, loads}
 use Rattle.lent.proofs.Held.{stores, lands-step, answers, in-state, hands, gone, adds-num, adds-flag}
-use Rattle.lent.proofs.Walk.{clause, _and_, by-walk, hears, ends}
+use Rattle.lent.proofs.Walk.{clause, _and_, by-walk, hears, walk-ends}
 use Rattle.lent.proofs.next.Key.{name as #lent·next}
 use Rattle.lent.proofs.next as f
 use Rattle.lent.proofs.next.Statement as stated
@@ -69,9 +68,6 @@ module _ {M : Type 1} (𝓤 : URA M) (H : Heap 𝓤) (A : Atoms 𝓤) (at-mem : 
     abbrev to : Callee .Ghost
     to = (((κ′, tt), (q′, tt), tt, args, (num-val (h .start), (num-val (h .end), (num-val (h .messages), (vbool (h .error) ∷ [], (sv ∷ [], tt)))))), tt)
 
-    abbrev found : Step
-    found = nextOf (next-parts h) (s .now)
-
     goes : InRange h → ent 𝓤 (⋆ 𝓤 H A ((‵ (flft κ′ q′) ⊛ ‵ ftrue) ∷ ‵ Own ∷ [])) (Callee .pre to)
     goes p =
         qed W ((‵ (flft κ′ q′) ⊛ ‵ ftrue) ∷ ‵ Own ∷ []) ∵ nothing ! $ move ! (2 ∷ 0 ∷ []) $ fjoin ! $
@@ -89,11 +85,11 @@ module _ {M : Type 1} (𝓤 : URA M) (H : Heap 𝓤) (A : Atoms 𝓤) (at-mem : 
     abbrev Left : Step → List (Item 𝓤)
     Left r = lent-at 𝓤 κ q b o γ (next-into h r) ((‵ (flft κ′ q′) ⊛ ‵ ftrue) ∷ ‵ Own ∷ [])
 
-    exits : (r : Step) → r ≡ found → Is N.the-row (r .answer) (answer-val (r .answer) ∷ [])
+    exits : (r : Step) → r ≡ nextOf (next-parts h) (s .now) → Is N.the-row (r .answer) (answer-val (r .answer) ∷ [])
         → ent 𝓤 (⋆ 𝓤 H A (Left r)) (Post (answer-val (r .answer)))
     exits r e is =
         qed W (Left r) ∵
-        ends 𝓤 H A f.ended stayed (f.clauses 𝓤 H A at-mem run) here ! (answer-val (r .answer)) (r .answer) (next-into h r, (tt, tt)) (tt, (tt, tt))
+        walk-ends 𝓤 H A f.ended stayed (f.clauses 𝓤 H A at-mem run) here ! (answer-val (r .answer)) (r .answer) (next-into h r, (tt, tt)) (tt, (tt, tt))
         (clause and clause) (next-back h (s .now) r e) $
         move ! (2 ∷ 3 ∷ []) $ join ! $ frame ! $
         feqI ! (List Val) (vptr b o ∷ []) (vptr b o ∷ []) refl $ fjoin3 ! $

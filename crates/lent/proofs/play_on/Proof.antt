@@ -2,14 +2,14 @@
 -- and every part is stored back.
 -- Assumes nothing.
 use Rattle.lent.proofs.Prelude.{_≡_, refl, ap, ℕ, zero, _+_, _<_, _^_, Bool, [], _∷_, List, length}
-use Rattle.lent.proofs.Prelude.{URA, fullShare, named, w64, Val, vptr, vint, vbool, SProp, ent, id⊢, GName, Lft, Share, ftrue, fat, flft, Fml}
+use Rattle.lent.proofs.Prelude.{URA, fullShare, named, w64, Val, vptr, vint, vbool, SProp, ent, GName, Lft, Share, ftrue, fat, flft, Fml}
 use Rattle.lent.proofs.Prelude.{Memory, Routine, Heap, Calls, Loops, WpFn, Atoms, Fun, givenOf, tables, FmC}
 use Rattle.lent.proofs.Prelude.{Item, Given, ‵, raw, _⊛_, _$_, _∵_, !, qed, by, move, keep, drop, use1, split, join, rewrite, fsplit, fsplit3, fjoin}
-use Rattle.lent.proofs.Prelude.{fjoin3, feqI, suffices, frame, done, use3, ⋆, feqL}
+use Rattle.lent.proofs.Prelude.{fjoin3, feqI, frame, done, use3, ⋆, feqL}
 use Rattle.lent.proofs.Prelude.{look, init, stop, hop, fld, from, load, and-then, no-more, assigns, land, returns, enter, alloc1, alloc0, params1, pass1}
 use Rattle.lent.proofs.Prelude.{pass0, free0, addr, whole, sub, look-in, agg}
 use Rattle.lent.proofs.Prelude.{owns, Is, shows, RefT, MutRef, ptr-vals, mut-tells, plain, only, owned, peeks, nothing, Contract, Triple, calls-at}
-use Rattle.lent.proofs.Prelude.{onEntry, tripleOf, cited, says, Stays, stay-ref, walkOf, goes-ref, ends-at, stay-none, goes-none, stay-none-slice}
+use Rattle.lent.proofs.Prelude.{onEntry, tripleOf, cited, Stays, stay-ref, walkOf, goes-ref, stay-none, goes-none, stay-none-slice}
 use Rattle.lent.proofs.Prelude.{goes-none-slice, gave-slice, goes-gave-slice, yes, usize, u8, uint-vals, uint-tells, sliceVal, ShrSlice, slice-vals}
 use Rattle.lent.proofs.Prelude.{shr-slice-tells, shr-slice-lawful, shr-slice-copy, MutSlice, Room, finally, mut-slice-tells}
 use Rattle.stream.specs.declared.Stream.{Stream}
@@ -38,7 +38,7 @@ use Rattle.lent.proofs.played_on.Symbol.{name as #lent·played-on}
 use Rattle.lent.proofs.played_on.Met as g-thm
 use Rattle.lent.proofs.Held.{state-val, state-name, state-parts, InRange, fits, num-val, num, lent-at, opens-stream, closes-stream, loads, stores, hands}
 use Rattle.lent.proofs.Held.{gone, adds-num, adds-flag}
-use Rattle.lent.proofs.Walk.{clause, _and_, by-walk, hears, ends}
+use Rattle.lent.proofs.Walk.{clause, _and_, by-walk, hears, walk-ends}
 use Rattle.lent.proofs.play_on.Key.{name as #lent·play-on}
 use Rattle.lent.proofs.play_on as f
 use Rattle.lent.proofs.play_on.Statement as stated
@@ -144,7 +144,7 @@ module _ {M : Type 1} (𝓤 : URA M) (H : Heap 𝓤) (A : Atoms 𝓤) (at-mem : 
     abbrev Tokens : Item 𝓤
     Tokens = ‵ (flft κ₁ q₁) ⊛ ‵ (flft κ₂ q₂) ⊛ ‵ ftrue
 
-    -- what the callee is passed, and what it ensures of a result and a last list
+    -- what the callee is passed
     abbrev args : ℕ × (ℕ × (ℕ × (ℕ × (ℕ × (Bool × (RefT (List ℕ) × (RefT (List ℕ) × (ℕ × (ℕ × Unit {0})))))))))
     args = (h .start, (h .end, (h .«bytes_read», (h .«read_calls», (h .messages, (h .error, (s, (y, (n, (w, tt))))))))))
 
@@ -155,11 +155,9 @@ module _ {M : Type 1} (𝓤 : URA M) (H : Heap 𝓤) (A : Atoms 𝓤) (at-mem : 
     abbrev to : Callee .Ghost
     to = (((κ₁, (κ₂, tt)), (q₁, (q₂, tt)), tt, args, parts), tt)
 
+    -- what playing the slice makes of it
     abbrev found : Out
     found = playOf (y .now) w h ys n
-
-    abbrev Said : Played → List ℕ → Type 0
-    Said r zs = (r ≡ found .played) × (zs ≡ found .buffer)
 
     goes : InRange h → ent 𝓤 (⋆ 𝓤 H A (Tokens ∷ ‵ Own ∷ ‵ Shr ∷ [])) (Callee .pre to)
     goes p =
@@ -179,11 +177,11 @@ module _ {M : Type 1} (𝓤 : URA M) (H : Heap 𝓤) (A : Atoms 𝓤) (at-mem : 
     abbrev Left : Played → List ℕ → List (Item 𝓤)
     Left r zs = lent-at 𝓤 κ q b o γ (r .state) (Tokens ∷ ‵ (finally u8 γ′ zs) ∷ ‵ Shr ∷ [])
 
-    exits : (r : Played) (zs : List ℕ) → Said r zs → length zs ≡ length ys → Is Q.the-row (reach r) (reach-val r ∷ [])
+    exits : (r : Played) (zs : List ℕ) → (r ≡ found .played) × (zs ≡ found .buffer) → length zs ≡ length ys → Is Q.the-row (reach r) (reach-val r ∷ [])
         → ent 𝓤 (⋆ 𝓤 H A (Left r zs)) (Post (reach-val r))
     exits r zs e l is =
         qed W (Left r zs) ∵
-        ends 𝓤 H A f.ended stayed (f.clauses 𝓤 H A at-mem run) here ! (reach-val r) (reach r) (r .state, (zs, (tt, (tt, (tt, tt))))) (tt, (l, (tt, (tt, (tt, tt)))))
+        walk-ends 𝓤 H A f.ended stayed (f.clauses 𝓤 H A at-mem run) here ! (reach-val r) (reach r) (r .state, (zs, (tt, (tt, (tt, tt))))) (tt, (l, (tt, (tt, (tt, tt)))))
         (clause and clause and clause and clause) (ap (λ (z : Played). z .at) (e .0), (ap (λ (z : Played). z .answer) (e .0), (ap (λ (z : Played). z .state) (e .0), e .1))) $
         move ! (2 ∷ 3 ∷ []) $ join ! $ frame ! $
         feqI ! (List Val) (vptr b o ∷ []) (vptr b o ∷ []) refl $ fjoin3 ! $

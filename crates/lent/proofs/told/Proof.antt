@@ -2,13 +2,13 @@
 -- and the mark are stored back.
 -- Assumes nothing.
 use Rattle.lent.proofs.Prelude.{_≡_, refl, ℕ, _<_, _^_, Bool, [], _∷_, List}
-use Rattle.lent.proofs.Prelude.{URA, named, w64, Val, vptr, vint, vbool, SProp, ent, emp, id⊢, GName, Lft, Share, ftrue, flft}
+use Rattle.lent.proofs.Prelude.{URA, named, w64, Val, vptr, vint, vbool, SProp, ent, emp, GName, Lft, Share, ftrue, flft}
 use Rattle.lent.proofs.Prelude.{Memory, Routine, Heap, Calls, Loops, WpFn, Atoms, Fun, givenOf, tables, FmC}
 use Rattle.lent.proofs.Prelude.{Item, Given, ‵, raw, _⊛_, _$_, _∵_, !, qed, by, move, keep, drop, use0, split, join, fsplit, fsplit3, fjoin, fjoin3}
-use Rattle.lent.proofs.Prelude.{feqI, suffices, frame, done, ⋆}
+use Rattle.lent.proofs.Prelude.{feqI, frame, done, ⋆}
 use Rattle.lent.proofs.Prelude.{look, init, stop, fld, from, no-more, returns, enter, alloc1, alloc0, params1, pass1, pass0, free0, look-in}
 use Rattle.lent.proofs.Prelude.{owns, Is, shows, RefT, MutRef, ptr-vals, mut-tells, plain, peeks, nothing, Contract, Triple, calls-at, onEntry, tripleOf}
-use Rattle.lent.proofs.Prelude.{cited, says, Stays, stay-ref, walkOf, goes-ref, ends-at, stay-none, goes-none, yes, usize, uint-vals, uint-tells}
+use Rattle.lent.proofs.Prelude.{cited, Stays, stay-ref, walkOf, goes-ref, stay-none, goes-none, yes, usize, uint-vals, uint-tells}
 use Rattle.stream.specs.Told.{toldOf}
 use Rattle.stream.specs.declared.Stream.{Stream}
 use Rattle.stream.specs.declared.Step.{Step}
@@ -23,7 +23,7 @@ use Rattle.lent.proofs.told_on.Met as g-thm
 use Rattle.lent.proofs.Apart.{told-parts, told-into, told-back}
 use Rattle.lent.proofs.Held.{answer-val, InRange, fits, made, num-val, num, changed, answer-is, lent-at, opens-stream, closes-stream, owns-answer, loads}
 use Rattle.lent.proofs.Held.{stores, lands-step, answers, in-state, hands, gone, adds-num, adds-flag}
-use Rattle.lent.proofs.Walk.{clause, _and_, by-walk, hears, ends}
+use Rattle.lent.proofs.Walk.{clause, _and_, by-walk, hears, walk-ends}
 use Rattle.lent.proofs.told.Key.{name as #lent·told}
 use Rattle.lent.proofs.told as f
 use Rattle.lent.proofs.told.Statement as stated
@@ -61,9 +61,6 @@ module _ {M : Type 1} (𝓤 : URA M) (H : Heap 𝓤) (A : Atoms 𝓤) (at-mem : 
     abbrev to : Callee .Ghost
     to = ((tt, tt, tt, args, (num-val (h .start), (num-val (h .end), (num-val (h .«bytes_read»), (vbool (h .error) ∷ [], (num-val n, tt)))))), tt)
 
-    abbrev found : Step
-    found = toldOf (told-parts h) n
-
     goes : InRange h → ent 𝓤 (emp 𝓤) (Callee .pre to)
     goes p =
         qed W [] ∵ nothing ! $
@@ -82,11 +79,11 @@ module _ {M : Type 1} (𝓤 : URA M) (H : Heap 𝓤) (A : Atoms 𝓤) (at-mem : 
     abbrev Left : Step → List (Item 𝓤)
     Left r = lent-at 𝓤 κ q b o γ (told-into h r) []
 
-    exits : (r : Step) → r ≡ found → Is N.the-row (r .answer) (answer-val (r .answer) ∷ [])
+    exits : (r : Step) → r ≡ toldOf (told-parts h) n → Is N.the-row (r .answer) (answer-val (r .answer) ∷ [])
         → ent 𝓤 (⋆ 𝓤 H A (Left r)) (Post (answer-val (r .answer)))
     exits r e is =
         qed W (Left r) ∵
-        ends 𝓤 H A f.ended stayed (f.clauses 𝓤 H A at-mem run) here ! (answer-val (r .answer)) (r .answer) (told-into h r, (tt, tt)) (tt, (tt, tt))
+        walk-ends 𝓤 H A f.ended stayed (f.clauses 𝓤 H A at-mem run) here ! (answer-val (r .answer)) (r .answer) (told-into h r, (tt, tt)) (tt, (tt, tt))
         (clause and clause) (told-back h n r e) $
         nothing ! $ move ! (3 ∷ 0 ∷ []) $ join ! $ frame ! $
         feqI ! (List Val) (vptr b o ∷ []) (vptr b o ∷ []) refl $ fjoin3 ! $

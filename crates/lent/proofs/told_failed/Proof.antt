@@ -1,14 +1,13 @@
 -- `lent::told_failed` meets its contract: a walk of its MIR, by hand. The borrow is opened, start, end and the mark are loaded and passed to `failed_on`, and the
 -- mark of what comes back is stored; the borrow is closed at the record with that mark, which is what the definition makes of the whole record (`failed-back`).
 -- Assumes nothing.
-use Rattle.lent.proofs.Prelude.{_≡_, refl, ℕ, Bool, [], _∷_, List}
-use Rattle.lent.proofs.Prelude.{URA, named, Val, vptr, vbool, SProp, ent, emp, id⊢, GName, Lft, Share, ftrue, flft}
+use Rattle.lent.proofs.Prelude.{_≡_, refl, ℕ, Bool, [], _∷_, List, URA, named, Val, vptr, vbool, SProp, ent, emp, GName, Lft, Share, ftrue, flft}
 use Rattle.lent.proofs.Prelude.{Memory, Routine, Heap, Calls, Loops, WpFn, Atoms, Fun, givenOf, tables, FmC}
 use Rattle.lent.proofs.Prelude.{Item, Given, ‵, raw, _⊛_, _$_, _∵_, !, qed, by, move, keep, drop, use0, split, join, fsplit, fsplit3, fjoin, fjoin3}
-use Rattle.lent.proofs.Prelude.{feqI, suffices, frame, done, ⋆}
+use Rattle.lent.proofs.Prelude.{feqI, frame, done, ⋆}
 use Rattle.lent.proofs.Prelude.{look, init, stop, fld, from, no-more, returns, enter, alloc1, alloc0, params1, pass1, pass0, free0, look-in}
 use Rattle.lent.proofs.Prelude.{owns, Is, shows, RefT, MutRef, ptr-vals, mut-tells, plain, peeks, nothing, Contract, Triple, calls-at, onEntry, tripleOf}
-use Rattle.lent.proofs.Prelude.{cited, says, Stays, stay-ref, walkOf, goes-ref, ends-at}
+use Rattle.lent.proofs.Prelude.{cited, Stays, stay-ref, walkOf, goes-ref}
 use Rattle.stream.specs.Told.{failedOf}
 use Rattle.stream.specs.declared.Stream.{Stream}
 use Rattle.stream.specs.declared.Step.{Step}
@@ -23,7 +22,7 @@ use Rattle.lent.proofs.failed_on.Met as g-thm
 use Rattle.lent.proofs.Apart.{failed-parts, failed-into, failed-back}
 use Rattle.lent.proofs.Held.{answer-val, InRange, fits, made, num-val, num, answer-is, lent-at, opens-stream, closes-stream, owns-answer, loads, stores}
 use Rattle.lent.proofs.Held.{lands-step, answers, in-state, hands, gone, adds-num, adds-flag}
-use Rattle.lent.proofs.Walk.{clause, _and_, by-walk, hears, ends}
+use Rattle.lent.proofs.Walk.{clause, _and_, by-walk, hears, walk-ends}
 use Rattle.lent.proofs.told_failed.Key.{name as #lent·told-failed}
 use Rattle.lent.proofs.told_failed as f
 use Rattle.lent.proofs.told_failed.Statement as stated
@@ -61,9 +60,6 @@ module _ {M : Type 1} (𝓤 : URA M) (H : Heap 𝓤) (A : Atoms 𝓤) (at-mem : 
     abbrev to : Callee .Ghost
     to = ((tt, tt, tt, args, (num-val (h .start), (num-val (h .end), (vbool (h .error) ∷ [], tt)))), tt)
 
-    abbrev found : Step
-    found = failedOf (failed-parts h)
-
     goes : InRange h → ent 𝓤 (emp 𝓤) (Callee .pre to)
     goes p =
         qed W [] ∵ nothing ! $
@@ -80,11 +76,11 @@ module _ {M : Type 1} (𝓤 : URA M) (H : Heap 𝓤) (A : Atoms 𝓤) (at-mem : 
     abbrev Left : Step → List (Item 𝓤)
     Left r = lent-at 𝓤 κ q b o γ (failed-into h r) []
 
-    exits : (r : Step) → r ≡ found → Is N.the-row (r .answer) (answer-val (r .answer) ∷ [])
+    exits : (r : Step) → r ≡ failedOf (failed-parts h) → Is N.the-row (r .answer) (answer-val (r .answer) ∷ [])
         → ent 𝓤 (⋆ 𝓤 H A (Left r)) (Post (answer-val (r .answer)))
     exits r e is =
         qed W (Left r) ∵
-        ends 𝓤 H A f.ended stayed (f.clauses 𝓤 H A at-mem run) here ! (answer-val (r .answer)) (r .answer) (failed-into h r, tt) (tt, tt)
+        walk-ends 𝓤 H A f.ended stayed (f.clauses 𝓤 H A at-mem run) here ! (answer-val (r .answer)) (r .answer) (failed-into h r, tt) (tt, tt)
         (clause and clause) (failed-back h r e) $
         nothing ! $ move ! (3 ∷ 0 ∷ []) $ join ! $ frame ! $
         feqI ! (List Val) (vptr b o ∷ []) (vptr b o ∷ []) refl $ fjoin3 ! $
