@@ -11,8 +11,8 @@ use format::Num64;
 
 // ---- the list
 
-// The first n elements, or all that there are.
-fn first(s: &[u8], n: usize) -> &[u8]
+// The first n bytes, or all that there are.
+pub fn first(s: &[u8], n: usize) -> &[u8]
     ensures { λ r. ⌜ now r ≡ take n (now (s .entry)) ⌝ }
 {
     if n > s.len() {

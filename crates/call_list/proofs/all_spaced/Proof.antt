@@ -8,7 +8,6 @@ use lib.ListN.{length, drop, drop-of-length-le}
 use Rattle.text.proofs.Laws.{wrote-none}
 use Rattle.call_list.specs.Calls.{spacedOf}
 use Rattle.call_list.proofs.Laws.{Spacing, spacing-more}
-use borrow.Author.Needs.{needs}
 use Rattle.call_list.proofs.all_spaced.Statement.{statement}
 use Rattle.call_list.proofs.all_spaced.Tie as tie
 

@@ -4,7 +4,7 @@ use Prim.Native.Nat.{_-_, _≤_}
 use native.Mathlib.Omega.{arith}
 use mathlib.Core.List.{_++_}
 use mathlib.Core.Path.{_≡_, refl, ap, _∙_}
-use lib.ListN.{length, drop, length-append, length-drop}
+use lib.ListN.{length, drop}
 use Rattle.call_list.specs.Calls.{madeOf}
 use Rattle.call_list.proofs.Laws.{made-long, made-more}
 use borrow.Author.Needs.{needs}
