@@ -9,6 +9,12 @@ pub fn word(template: &[u8], out: &mut [u8], at: usize) -> usize {
     templates::put(template, 0, &[0], out, at)
 }
 
+// A message: its 19 numbers.
+fn message(v: [u64; 19], out: &mut [u8], at: usize) -> usize {
+    let next = word(b" message{.", out, at);
+    call_list::numbers(&v, out, next)
+}
+
 // What the stream answered.
 fn answered(f: Flat, out: &mut [u8], at: usize) -> usize {
     let v = f.v;
@@ -24,8 +30,7 @@ fn answered(f: Flat, out: &mut [u8], at: usize) -> usize {
     if f.kind == flat::READY {
         return word(b" ready{.", out, at);
     }
-    let next = word(b" message{.", out, at);
-    call_list::numbers(&v, out, next)
+    message(v, out, at)
 }
 
 fn flag(b: bool) -> u64 {

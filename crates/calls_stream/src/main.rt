@@ -59,13 +59,18 @@ fn call(lent: bool, v: [u64; 17], a: &mut [u8], b: &[u8], out: &mut [u8], from: 
     0
 }
 
+// What stands before the call's name.
+fn begun(lent: bool, out: &mut [u8]) -> usize {
+    if lent {
+        return answers::word(b"lent {.", out, 0);
+    }
+    0
+}
+
 // The whole line; whether there was such a call and the line could be written.
 fn line(lent: bool, v: [u64; 17], a: &mut [u8], b: &[u8]) -> bool {
     let mut out = io::buffer();
-    let mut from = 0;
-    if lent {
-        from = answers::word(b"lent {.", &mut out, 0);
-    }
+    let from = begun(lent, &mut out);
     let at = call(lent, v, a, b, &mut out, from);
     if at == 0 {
         return false;

@@ -1,38 +1,34 @@
+-- `calls_stream::turns` meets its contract.
+-- Assumes nothing.
+use Prim.Native.Nat.{_-_}
+use lib.ListN.{length}
+use borrow.Author.Needs.{needs}
 use Rattle.calls_stream.proofs.turns.Statement.{statement}
 use Rattle.calls_stream.proofs.turns.Tie as tie
-use Rattle.calls_stream.proofs.turns.Reads as reads
-use Rattle.calls_stream.proofs.turns.Lts as lts
-use Rattle.calls_stream.proofs.both_turns.Reads as both-turns-reads
 
 abbrev Inv-loop : tie.InvT-loop
-Inv-loop list at₀ at = ?
+Inv-loop list at₀ at = Unit {0}
 
 abbrev μ-loop : tie.MeasureT-loop
-μ-loop list at₀ at = ?
+μ-loop list at₀ at = length list - at
 
--- src/main.rt:107:5
 loop-holds : tie.Need-loop-holds Inv-loop μ-loop
-loop-holds c = ?
+loop-holds c = search needs
 
--- src/main.rt:108:13
 both-turns-requires : tie.Need-both-turns-requires Inv-loop μ-loop
-both-turns-requires c κs = ?
+both-turns-requires c κs = search needs
 
--- src/main.rt:110:13
 returns : tie.Need-returns Inv-loop μ-loop
-returns c = ?
+returns c = search needs
 
--- src/main.rt:107:5
 loop-less : tie.Need-loop-less Inv-loop μ-loop
-loop-less c = ?
+loop-less c = search needs
 
--- src/main.rt:107:5
 loop-again : tie.Need-loop-again Inv-loop μ-loop
-loop-again c = ?
+loop-again c = search needs
 
--- src/main.rt:105:1
 returns-2 : tie.Need-returns-2 Inv-loop μ-loop
-returns-2 c = ?
+returns-2 c = search needs
 
 pub turns-spec : {M : Type 1} → statement M
 turns-spec =

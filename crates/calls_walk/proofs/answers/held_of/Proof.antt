@@ -1,41 +1,36 @@
+-- `calls_walk::answers::held_of` meets its contract.
+-- Assumes nothing.
+use Prim.Native.Nat.{_-_}
+use borrow.Author.Needs.{needs}
 use Rattle.calls_walk.proofs.answers.held_of.Statement.{statement}
 use Rattle.calls_walk.proofs.answers.held_of.Tie as tie
-use Rattle.calls_walk.proofs.answers.held_of.Reads as reads
-use Rattle.calls_walk.proofs.answers.held_of.Lts as lts
 
 abbrev Inv-loop : tie.InvT-loop
-Inv-loop b held₀ i₀ held i = ?
+Inv-loop b held₀ i₀ held i = Unit {0}
 
 abbrev μ-loop : tie.MeasureT-loop
-μ-loop b held₀ i₀ held i = ?
+μ-loop b held₀ i₀ held i = 52 - i
 
--- src/answers.rt:104:5
 loop-holds : tie.Need-loop-holds Inv-loop μ-loop
-loop-holds c = ?
+loop-holds c = search needs
 
--- src/answers.rt:106:23
 shared-slice-read-held : tie.Need-shared-slice-read-held Inv-loop μ-loop
-shared-slice-read-held c = ?
+shared-slice-read-held c = search needs
 
--- src/answers.rt:106:13
 array-write-held : tie.Need-array-write-held Inv-loop μ-loop
-array-write-held c = ?
+array-write-held c = search needs
 
--- src/answers.rt:108:9
 add-i : tie.Need-add-i Inv-loop μ-loop
-add-i c = ?
+add-i c = search needs
 
--- src/answers.rt:104:5
 loop-less : tie.Need-loop-less Inv-loop μ-loop
-loop-less c = ?
+loop-less c = search needs
 
--- src/answers.rt:104:5
 loop-again : tie.Need-loop-again Inv-loop μ-loop
-loop-again c = ?
+loop-again c = search needs
 
--- src/answers.rt:101:1
 returns : tie.Need-returns Inv-loop μ-loop
-returns c = ?
+returns c = search needs
 
 pub held-of-spec : {M : Type 1} → statement M
 held-of-spec =
