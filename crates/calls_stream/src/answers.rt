@@ -1,12 +1,30 @@
 // What the calls answer, as text: put at a place of a lent buffer, if there is room, with the place behind it answered. The words and the numbers are the scope's.
+ghost use Prim.Native.Nat.{_≤_};
+use crate::either::Went;
 use flat::Flat;
-use play::Played;
-use stream::Step;
 use stream::Stream;
 
 // A template that has no places for values.
-pub fn word(template: &[u8], out: &mut [u8], at: usize) -> usize {
+fn word(template: &[u8], out: &mut [u8], at: usize) -> usize {
     templates::put(template, 0, &[0], out, at)
+}
+
+fn flag(b: bool) -> u64
+    ensures { λ r. ⌜ r ≤ 1 ⌝ }
+{
+    if b { 1 } else { 0 }
+}
+
+// The call's name, by the digit of its number, behind `lent` where it is played over a lent state.
+pub fn name(lent: bool, which: u64, out: &mut [u8]) -> usize {
+    let digits = [48 + flag(lent), 48 + which % 10];
+    templates::put(
+        b"{0=,1=lent ,}{3=next,4=make_room,5=told,6=told_failed,7=play,}{.",
+        0,
+        &digits,
+        out,
+        0,
+    )
 }
 
 // A message: its 19 numbers.
@@ -33,10 +51,6 @@ fn answered(f: Flat, out: &mut [u8], at: usize) -> usize {
     message(v, out, at)
 }
 
-fn flag(b: bool) -> u64 {
-    if b { 1 } else { 0 }
-}
-
 // A stream's state.
 fn state(s: Stream, out: &mut [u8], at: usize) -> usize {
     let v = [
@@ -52,17 +66,17 @@ fn state(s: Stream, out: &mut [u8], at: usize) -> usize {
 }
 
 // What a call of the stream answered, and the state behind it.
-pub fn stepped(step: Step, out: &mut [u8], at: usize) -> usize {
-    let s = step.state;
-    let next = answered(flat::flatten(step), out, at);
+pub fn stepped(f: Flat, out: &mut [u8], at: usize) -> usize {
+    let s = f.state;
+    let next = answered(f, out, at);
     state(s, out, next)
 }
 
 // What the playing slice answered, the position and the state behind it.
-pub fn played(p: Played, out: &mut [u8], at: usize) -> usize {
-    let s = p.state;
-    let answer = p.answer;
-    let next = answered(flat::flatten(Step { state: s, answer }), out, at);
-    let then = templates::put(b" at {n}{.", 0, &[p.at as u64], out, next);
+pub fn played(p: Went, out: &mut [u8], at: usize) -> usize {
+    let f = p.flat;
+    let s = f.state;
+    let next = answered(f, out, at);
+    let then = templates::put(b" at {n}{.", 0, &[p.at], out, next);
     state(s, out, then)
 }

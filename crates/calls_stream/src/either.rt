@@ -1,49 +1,94 @@
-// Each call of the stream and the playing slice, by value or over a lent state.
+// Each call of the stream and the playing slice, by value or over a lent state, its answer as numbers. Who holds a message by value is costly to check, so that
+// is done in functions of one call.
+use flat::Flat;
 use play::Played;
 use stream::Step;
 use stream::Stream;
 
-// The stream's next.
-pub fn next(lent: bool, s: Stream, a: &[u8]) -> Step {
+// The numbers of the stream's calls; told of a failed read is the one behind them.
+const NEXT: u64 = 3;
+
+const MAKE_ROOM: u64 = 4;
+
+const TOLD: u64 = 5;
+
+fn by_value(which: u64, s: Stream, a: &mut [u8], n: usize) -> Flat {
+    if which == NEXT {
+        return flat::next(s, a);
+    }
+    if which == MAKE_ROOM {
+        return flat::make_room(s, a);
+    }
+    if which == TOLD {
+        return flat::told(s, n);
+    }
+    flat::told_failed(s)
+}
+
+fn lent_next(s: Stream, a: &[u8]) -> Flat {
+    flat::flatten(lender::next(s, a))
+}
+
+fn lent_make_room(s: Stream, a: &mut [u8]) -> Flat {
+    flat::flatten(lender::make_room(s, a))
+}
+
+fn lent_told(s: Stream, n: usize) -> Flat {
+    flat::flatten(lender::told(s, n))
+}
+
+fn lent_told_failed(s: Stream) -> Flat {
+    flat::flatten(lender::told_failed(s))
+}
+
+fn over_lent(which: u64, s: Stream, a: &mut [u8], n: usize) -> Flat {
+    if which == NEXT {
+        return lent_next(s, a);
+    }
+    if which == MAKE_ROOM {
+        return lent_make_room(s, a);
+    }
+    if which == TOLD {
+        return lent_told(s, n);
+    }
+    lent_told_failed(s)
+}
+
+// A call of the stream: by its number next, make room, told or, by any other, told of a failed read.
+pub fn step(lent: bool, which: u64, s: Stream, a: &mut [u8], n: usize) -> Flat {
     if lent {
-        lender::next(s, a)
-    } else {
-        stream::next_of(s, a)
+        return over_lent(which, s, a, n);
+    }
+    by_value(which, s, a, n)
+}
+
+// What the playing slice answered, and the position behind it.
+pub struct Went {
+    pub flat: Flat,
+    pub at: u64,
+}
+
+fn flat_of(p: Played) -> Went {
+    let state = p.state;
+    let answer = p.answer;
+    Went {
+        flat: flat::flatten(Step { state, answer }),
+        at: p.at as u64,
     }
 }
 
-// Its make room.
-pub fn make_room(lent: bool, s: Stream, a: &mut [u8]) -> Step {
-    if lent {
-        lender::make_room(s, a)
-    } else {
-        stream::make_room_of(s, a)
-    }
+fn play_by_value(s: Stream, a: &mut [u8], b: &[u8], at: usize, width: usize) -> Went {
+    flat_of(play::play(s, a, b, at, width))
 }
 
-// Its told.
-pub fn told(lent: bool, s: Stream, n: usize) -> Step {
-    if lent {
-        lender::told(s, n)
-    } else {
-        stream::told_of(s, n)
-    }
-}
-
-// Its told of a failed read.
-pub fn told_failed(lent: bool, s: Stream) -> Step {
-    if lent {
-        lender::told_failed(s)
-    } else {
-        stream::told_failed_of(s)
-    }
+fn play_over_lent(s: Stream, a: &mut [u8], b: &[u8], at: usize, width: usize) -> Went {
+    flat_of(lender::play(s, a, b, at, width))
 }
 
 // The playing slice.
-pub fn play(lent: bool, s: Stream, a: &mut [u8], b: &[u8], at: usize, width: usize) -> Played {
+pub fn play(lent: bool, s: Stream, a: &mut [u8], b: &[u8], at: usize, width: usize) -> Went {
     if lent {
-        lender::play(s, a, b, at, width)
-    } else {
-        play::play(s, a, b, at, width)
+        return play_over_lent(s, a, b, at, width);
     }
+    play_by_value(s, a, b, at, width)
 }

@@ -8,14 +8,8 @@ ghost use mathlib.Core.Path.{_≡_};
 ghost use lib.ListN.{length};
 use stream::Stream;
 
-// The calls' numbers.
-const NEXT: u64 = 3;
-
-const MAKE_ROOM: u64 = 4;
-
-const TOLD: u64 = 5;
-
-const TOLD_FAILED: u64 = 6;
+// The playing slice's number; the stream's calls have those before it, from FIRST on.
+const FIRST: u64 = 3;
 
 const PLAY: u64 = 7;
 
@@ -32,46 +26,27 @@ fn state_of(v: [u64; 17]) -> Stream {
 }
 
 // A call and its answer; 0 where no call has this number.
-fn call(lent: bool, v: [u64; 17], a: &mut [u8], b: &[u8], out: &mut [u8], from: usize) -> usize {
+fn call(lent: bool, v: [u64; 17], a: &mut [u8], b: &[u8], out: &mut [u8]) -> usize {
     let which = v[0];
+    if which < FIRST {
+        return 0;
+    }
+    if which > PLAY {
+        return 0;
+    }
+    let at = answers::name(lent, which, out);
     let s = state_of(v);
     let n = v[7] as usize;
-    if which == NEXT {
-        let at = answers::word(b"next{.", out, from);
-        return answers::stepped(either::next(lent, s, a), out, at);
-    }
-    if which == MAKE_ROOM {
-        let at = answers::word(b"make_room{.", out, from);
-        return answers::stepped(either::make_room(lent, s, a), out, at);
-    }
-    if which == TOLD {
-        let at = answers::word(b"told{.", out, from);
-        return answers::stepped(either::told(lent, s, n), out, at);
-    }
-    if which == TOLD_FAILED {
-        let at = answers::word(b"told_failed{.", out, from);
-        return answers::stepped(either::told_failed(lent, s), out, at);
-    }
     if which == PLAY {
-        let at = answers::word(b"play{.", out, from);
         return answers::played(either::play(lent, s, a, b, n, v[8] as usize), out, at);
     }
-    0
-}
-
-// What stands before the call's name.
-fn begun(lent: bool, out: &mut [u8]) -> usize {
-    if lent {
-        return answers::word(b"lent {.", out, 0);
-    }
-    0
+    answers::stepped(either::step(lent, which, s, a, n), out, at)
 }
 
 // The whole line; whether there was such a call and the line could be written.
 fn line(lent: bool, v: [u64; 17], a: &mut [u8], b: &[u8]) -> bool {
     let mut out = io::buffer();
-    let from = begun(lent, &mut out);
-    let at = call(lent, v, a, b, &mut out, from);
+    let at = call(lent, v, a, b, &mut out);
     if at == 0 {
         return false;
     }
