@@ -13,32 +13,45 @@ fn word(template: &[u8], out: &mut [u8], at: usize) -> usize {
     templates::put(template, 0, &[0], out, at)
 }
 
-// A message: its 19 numbers.
-fn message(m: Message, out: &mut [u8], at: usize) -> usize {
+// A message's 19 numbers.
+fn numbers_of(m: Message) -> [u64; 19] {
     let f = flat::flatten(Step {
         state: stream::fresh(),
         answer: Answer::Message(m),
     });
-    let v = f.v;
+    f.v
+}
+
+fn message(v: [u64; 19], out: &mut [u8], at: usize) -> usize {
     let next = word(b" message{.", out, at);
     call_list::numbers(&v, out, next)
 }
 
+fn used(n: usize, out: &mut [u8], at: usize) -> usize {
+    templates::put(b" used {n}{.", 0, &[n as u64], out, at)
+}
+
+fn refused(number: u8, out: &mut [u8], at: usize) -> usize {
+    templates::put(b" refused {n}{.", 0, &[number as u64], out, at)
+}
+
 // What reading a window answered.
+
+fn accepted(v: [u64; 19], n: usize, out: &mut [u8], at: usize) -> usize {
+    let next = message(v, out, at);
+    used(n, out, next)
+}
+
+fn refused_at(number: u8, place: usize, out: &mut [u8], at: usize) -> usize {
+    let next = refused(number, out, at);
+    call_list::numbers(&[place as u64], out, next)
+}
+
 fn read(w: Window, out: &mut [u8], at: usize) -> usize {
     match w {
-        Window::Message(m, used) => {
-            let next = message(m, out, at);
-            templates::put(b" used {n}{.", 0, &[used as u64], out, next)
-        }
+        Window::Message(m, n) => accepted(numbers_of(m), n, out, at),
         Window::Incomplete => word(b" incomplete{.", out, at),
-        Window::Refused(number, place) => templates::put(
-            b" refused {n} {n}{.",
-            0,
-            &[number as u64, place as u64],
-            out,
-            at,
-        ),
+        Window::Refused(number, place) => refused_at(number, place, out, at),
     }
 }
 
@@ -48,53 +61,61 @@ pub fn window(a: &[u8], out: &mut [u8]) -> usize {
     read(reader::parse_message(a), out, at)
 }
 
-// The answer on one frame.
+// What a step of the walk answered.
+
+fn bad(number: u8, place: usize, out: &mut [u8], at: usize) -> usize {
+    templates::put(
+        b" bad {n} {n}{.",
+        0,
+        &[number as u64, place as u64],
+        out,
+        at,
+    )
+}
+
 fn verdict(what: Verdict, out: &mut [u8], at: usize) -> usize {
     match what {
-        Verdict::Accepted(m) => message(m, out, at),
-        Verdict::Bad(number, place) => templates::put(
-            b" bad {n} {n}{.",
-            0,
-            &[number as u64, place as u64],
-            out,
-            at,
-        ),
+        Verdict::Accepted(m) => message(numbers_of(m), out, at),
+        Verdict::Bad(number, place) => bad(number, place, out, at),
     }
 }
 
-// What a step of the walk answered.
+fn frame(offset: u64, size: usize, out: &mut [u8], at: usize) -> usize {
+    templates::put(b" frame {n} {n}{.", 0, &[offset, size as u64], out, at)
+}
+
 fn ended(answer: walk::Answer, out: &mut [u8], at: usize) -> usize {
     match answer {
         walk::Answer::Frame { offset, size, what } => {
-            let next = templates::put(b" frame {n} {n}{.", 0, &[offset, size as u64], out, at);
+            let next = frame(offset, size, out, at);
             verdict(what, out, next)
         }
         walk::Answer::WantsMore => word(b" more{.", out, at),
-        walk::Answer::Refused(number) => templates::put(
-            b" refused {n}{.",
-            0,
-            &[number as u64],
-            out,
-            at,
-        ),
+        walk::Answer::Refused(number) => refused(number, out, at),
     }
 }
 
-// The same, the bytes used and the state behind it.
-fn walked(r: Stepped, out: &mut [u8], at: usize) -> usize {
-    let answer = r.answer;
-    let s = r.state;
+// A walk's state, of the held bytes their sum.
+fn state(s: Walk, out: &mut [u8], at: usize) -> usize {
     let held = s.held;
-    let next = ended(answer, out, at);
-    let then = templates::put(b" used {n} state{.", 0, &[r.used as u64], out, next);
-    let state = [
+    let v = [
         s.offset,
         s.seen as u64,
         s.frames,
         s.accepted,
         call_list::sum(&held),
     ];
-    call_list::numbers(&state, out, then)
+    let next = word(b" state{.", out, at);
+    call_list::numbers(&v, out, next)
+}
+
+// The answer, the bytes used and the state behind it.
+fn walked(r: Stepped, out: &mut [u8], at: usize) -> usize {
+    let answer = r.answer;
+    let s = r.state;
+    let next = ended(answer, out, at);
+    let then = used(r.used, out, next);
+    state(s, out, then)
 }
 
 // The first 52 bytes.
