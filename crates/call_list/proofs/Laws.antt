@@ -13,7 +13,7 @@ use Rattle.format.specs.declared.Fault.{Fault}
 use Rattle.format.specs.declared.Fault.the-variants.{Short, Refused}
 use Rattle.text.specs.Decimal.{decimalOf, Wrote}
 use Rattle.text.proofs.Laws.{wrote-long, wrote-append}
-use Rattle.call_list.specs.Calls.{valueIn, asksOf, byteOf, madeOf, weightOf, spacedOf}
+use Rattle.call_list.specs.Calls.{valueIn, asksOf, byteAt, madeOf, weightOf, spacedOf}
 
 -- ---- the list
 
@@ -36,11 +36,11 @@ module _ (f p : ℕ) (e : List ℕ) where
   pub made-long : (r₀ : List ℕ) (i : ℕ) → i ≤ length r₀ → length (madeOf f p e i ++ drop i r₀) ≡ length r₀
   made-long r₀ i h = rw (length-append, length-drop, made-count) (omega arith)
 
-  pub made-more : (r₀ r : List ℕ) (i : ℕ) → i < length r₀ → r ≡ madeOf f p e i ++ drop i r₀ → set r i (byteOf f p e i) ≡ madeOf f p e (i + 1) ++ drop (i + 1) r₀
+  pub made-more : (r₀ r : List ℕ) (i : ℕ) → i < length r₀ → r ≡ madeOf f p e i ++ drop i r₀ → set r i (byteAt f p e i) ≡ madeOf f p e (i + 1) ++ drop (i + 1) r₀
   unfolding madeOf
   made-more r₀ r i h q =
       let m = madeOf f p e i in
-      let x = byteOf f p e i in
+      let x = byteAt f p e i in
       let ys = drop (suc i) r₀ in
       rw (q, drop-cons r₀ i 0 h, add-one i) (set-at m (getD r₀ i 0) ys x i (made-count i) ∙ sym (append-snoc m x ys))
 

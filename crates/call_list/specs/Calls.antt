@@ -40,12 +40,12 @@ fromNext t = drop (askOf t 16) (fromB t)
 abbrev pub fillOf : ℕ → ℕ → ℕ
 fillOf f i = cond (eqb f 0) 0 ((i % 251 + f) % 256)
 
-unfoldable pub byteOf : ℕ → ℕ → List ℕ → ℕ → ℕ
-byteOf f p e i = cond (leb p i && ltb i (p + length e)) (getD e (i - p) 0) (fillOf f i)
+unfoldable pub byteAt : ℕ → ℕ → List ℕ → ℕ → ℕ
+byteAt f p e i = cond (leb p i && ltb i (p + length e)) (getD e (i - p) 0) (fillOf f i)
 
 unfoldable pub madeOf : ℕ → ℕ → List ℕ → ℕ → List ℕ
 madeOf f p e zero = []
-madeOf f p e (suc n) = madeOf f p e n ++ (byteOf f p e n ∷ [])
+madeOf f p e (suc n) = madeOf f p e n ++ (byteAt f p e n ∷ [])
 
 -- the first n bytes of A and of B, of the call that t begins with
 abbrev pub bytesA : List ℕ → ℕ → List ℕ

@@ -1,12 +1,12 @@
-// Lists of single calls, and what every line on a call is made of: the sum of lent bytes, and numbers in decimal. What a list is, and what a call on it asks for, is
-// defined in specs/Calls.antt.
+// Lists of single calls, and what every line on a call is made of: the sum of lent bytes, and numbers in decimal. What a list is, and what a call on it
+// asks for, is defined in specs/Calls.antt.
 ghost use Prim.Native.Nat.{_+_, _*_, _%_, _≤_, min};
 ghost use mathlib.Core.List.{_∷_, _++_};
 ghost use mathlib.Core.Path.{_≡_};
 ghost use lib.ListN.{length, take, drop};
 ghost use Rattle.format.specs.Layout.{field, num};
 ghost use Rattle.text.specs.Decimal.{decimalOf, Wrote, Puts};
-ghost use Rattle.call_list.specs.Calls.{valueIn, asksOf, fillOf, byteOf, madeOf, bytesA, bytesB, askedOf, weightOf, spacedOf};
+ghost use Rattle.call_list.specs.Calls.{valueIn, asksOf, fillOf, byteAt, madeOf, bytesA, bytesB, askedOf, weightOf, spacedOf};
 use format::Num64;
 
 // ---- the list
@@ -75,7 +75,7 @@ fn fill_byte(fill: u64, i: usize) -> u8
 
 // The byte at a place: an explicit one, or the fill's.
 fn byte(fill: u64, place: usize, explicit: &[u8], i: usize) -> u8
-    ensures { λ r. ⌜ r ≡ byteOf fill place (now (explicit .entry)) i ⌝ }
+    ensures { λ r. ⌜ r ≡ byteAt fill place (now (explicit .entry)) i ⌝ }
 {
     if i < place {
         return fill_byte(fill, i);
@@ -113,7 +113,8 @@ pub struct Asked {
     pub next: usize,
 }
 
-// The call at a place of a list. A and B are made in two rooms, and cut to them; what a room has behind them stays. Behind the list's end numbers are 0, and bytes are not put.
+// The call at a place of a list. A and B are made in two rooms, and cut to them; what a room has behind them stays. Behind the list's end numbers are 0,
+// and no explicit bytes are put.
 pub fn call_at(list: &[u8], at: usize, a: &mut [u8], b: &mut [u8]) -> Asked
     ensures { λ r. ⌜ r ≡ askedOf (now (list .entry)) at (length (now (a .entry))) (length (now (b .entry))) ⌝ }
     ensures { λ r. ⌜ now (a .exit) ≡ bytesA (drop at (now (list .entry))) (r .na) ++ drop (r .na) (now (a .entry)) ⌝ }

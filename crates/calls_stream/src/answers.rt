@@ -1,6 +1,6 @@
 // What the calls answer, as text: put at a place of a lent buffer, if there is room, with the place behind it answered. The words and the numbers are the scope's.
 ghost use Prim.Native.Nat.{_≤_};
-use crate::either::Went;
+use crate::either::FlatPlayed;
 use flat::Flat;
 use stream::Stream;
 
@@ -73,7 +73,7 @@ pub fn stepped(f: Flat, out: &mut [u8], at: usize) -> usize {
 }
 
 // What the playing slice answered, the position and the state behind it.
-pub fn played(p: Went, out: &mut [u8], at: usize) -> usize {
+pub fn played(p: FlatPlayed, out: &mut [u8], at: usize) -> usize {
     let f = p.flat;
     let s = f.state;
     let next = answered(f, out, at);

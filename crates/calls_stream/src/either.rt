@@ -63,30 +63,30 @@ pub fn step(lent: bool, which: u64, s: Stream, a: &mut [u8], n: usize) -> Flat {
 }
 
 // What the playing slice answered, and the position behind it.
-pub struct Went {
+pub struct FlatPlayed {
     pub flat: Flat,
     pub at: u64,
 }
 
-fn flat_of(p: Played) -> Went {
+fn flat_of(p: Played) -> FlatPlayed {
     let state = p.state;
     let answer = p.answer;
-    Went {
+    FlatPlayed {
         flat: flat::flatten(Step { state, answer }),
         at: p.at as u64,
     }
 }
 
-fn play_by_value(s: Stream, a: &mut [u8], b: &[u8], at: usize, width: usize) -> Went {
+fn play_by_value(s: Stream, a: &mut [u8], b: &[u8], at: usize, width: usize) -> FlatPlayed {
     flat_of(play::play(s, a, b, at, width))
 }
 
-fn play_over_lent(s: Stream, a: &mut [u8], b: &[u8], at: usize, width: usize) -> Went {
+fn play_over_lent(s: Stream, a: &mut [u8], b: &[u8], at: usize, width: usize) -> FlatPlayed {
     flat_of(lender::play(s, a, b, at, width))
 }
 
 // The playing slice.
-pub fn play(lent: bool, s: Stream, a: &mut [u8], b: &[u8], at: usize, width: usize) -> Went {
+pub fn play(lent: bool, s: Stream, a: &mut [u8], b: &[u8], at: usize, width: usize) -> FlatPlayed {
     if lent {
         return play_over_lent(s, a, b, at, width);
     }
