@@ -1,3 +1,4 @@
+mod Answers
 pub mod Counting
 mod Skimming
 pub mod Turns

@@ -4,9 +4,11 @@ ghost use mathlib.Core.Path.{_≡_};
 ghost use Prim.Native.Nat.{_+_, _≤_};
 ghost use lib.ListN.{length};
 ghost use Rattle.text.specs.Decimal.{Wrote};
+ghost use Rattle.words.specs.Words.{endingBy};
 ghost use Rattle.stream.specs.Meaning.{numberOf};
 ghost use Rattle.tally_lines.specs.Lines.{tallyOf};
 ghost use Rattle.plain.specs.Plain.{Table};
+ghost use Rattle.tallying.specs.Answers.{isMessage, isWants, isReady, counterOf};
 ghost use Rattle.tallying.specs.Counts.{Counters, Skimmed, Drained};
 ghost use Rattle.tallying.specs.Reads.{tellOf, ReadSome, Tallied, Finished};
 
@@ -17,6 +19,7 @@ use standard::Brought;
 use stream::Answer;
 use stream::Step;
 use stream::Stream;
+use words::Ending;
 use words::Words;
 
 // Takes and counts the plain messages in front, with no jump by tag or side: such jumps are most of the time that `next_of` takes.
@@ -58,6 +61,64 @@ fn skim(s0: Stream, b: &[u8], rows: &[u64; 256], count: &mut [u64]) -> Stream
     }
 }
 
+// What is asked of an answer stands in functions of its own: a function that takes answers apart is dear to check, the more so the longer it is.
+
+// Whether the window wants bytes.
+fn wants(s: Step) -> bool
+    ensures { λ r. ⌜ r ≡ isWants (s .answer) ⌝ }
+{
+    let answer = s.answer;
+    match answer {
+        Answer::Message(_) => false,
+        Answer::Wants => true,
+        Answer::Ready => false,
+        Answer::Nothing => false,
+        Answer::Refused(_, _) => false,
+    }
+}
+
+// Whether there is room, or bytes came.
+fn ready(s: Step) -> bool
+    ensures { λ r. ⌜ r ≡ isReady (s .answer) ⌝ }
+{
+    let answer = s.answer;
+    match answer {
+        Answer::Message(_) => false,
+        Answer::Wants => false,
+        Answer::Ready => true,
+        Answer::Nothing => false,
+        Answer::Refused(_, _) => false,
+    }
+}
+
+// Whether it is a message.
+fn message(s: Step) -> bool
+    ensures { λ r. ⌜ r ≡ isMessage (s .answer) ⌝ }
+{
+    let answer = s.answer;
+    match answer {
+        Answer::Message(_) => true,
+        Answer::Wants => false,
+        Answer::Ready => false,
+        Answer::Nothing => false,
+        Answer::Refused(_, _) => false,
+    }
+}
+
+// The counter that a message raises.
+fn counter(s: Step) -> u8
+    ensures { λ r. ⌜ r ≡ counterOf (s .answer) ⌝ }
+{
+    let answer = s.answer;
+    match answer {
+        Answer::Message(message) => message.tag,
+        Answer::Wants => 0,
+        Answer::Ready => 0,
+        Answer::Nothing => 0,
+        Answer::Refused(_, _) => 0,
+    }
+}
+
 // Takes and counts the window's messages, the plain ones by `skim`, to the first answer that is none. The loop has this one way out, so that it
 // stays small.
 fn drain(s0: Stream, b: &[u8], rows: &[u64; 256], count: &mut [u64]) -> Step
@@ -68,14 +129,12 @@ fn drain(s0: Stream, b: &[u8], rows: &[u64; 256], count: &mut [u64]) -> Step
     loop {
         let t = skim(s, b, rows, count);
         let step = stream::next_of(t, b);
-        let state = step.state;
-        let answer = step.answer;
-        let Answer::Message(message) = answer else {
-            return Step { state, answer };
-        };
-        let k = message.tag as usize;
+        if !message(step) {
+            return step;
+        }
+        let k = counter(step) as usize;
         count[k] = count[k] + 1;
-        s = state;
+        s = step.state;
     }
 }
 
@@ -100,14 +159,13 @@ fn read_some(s: Stream, b: Brought, buf: &mut [u8]) -> Turn
     ensures { λ r. ⌜ ReadSome s b (now (buf .entry)) r (now (buf .exit)) ⌝ }
 {
     let room = stream::make_room_of(s, buf);
-    let state = room.state;
-    let answer = room.answer;
-    let Answer::Ready = answer else {
+    if !ready(room) {
         return Turn {
-            step: Step { state, answer },
+            step: room,
             brought: b,
         };
-    };
+    }
+    let state = room.state;
     let end = state.end;
     let brought = standard::read(b, &mut buf[end..]);
     let step = tell(state, brought);
@@ -125,30 +183,15 @@ fn run(count: &mut [u64]) -> Turn
     let mut b = standard::unread();
     loop {
         let step = drain(s, &buf, &rows, count);
-        let state = step.state;
-        let answer = step.answer;
-        let Answer::Wants = answer else {
-            return Turn {
-                step: Step { state, answer },
-                brought: b,
-            };
-        };
-        let turn = read_some(state, b, &mut buf);
-        let told = turn.step;
-        let brought = turn.brought;
-        let fed = told.state;
-        let heard = told.answer;
-        let Answer::Ready = heard else {
-            return Turn {
-                step: Step {
-                    state: fed,
-                    answer: heard,
-                },
-                brought,
-            };
-        };
-        s = fed;
-        b = brought;
+        if !wants(step) {
+            return Turn { step, brought: b };
+        }
+        let turn = read_some(step.state, b, &mut buf);
+        if !ready(turn.step) {
+            return turn;
+        }
+        s = turn.step.state;
+        b = turn.brought;
     }
 }
 
@@ -160,12 +203,14 @@ fn put_tally(count: &[u64], messages: u64, answer: Answer, out: &mut [u8]) -> us
     tally_lines::tally(count, messages, answer, out)
 }
 
-// Says where the run stopped, and how it went.
-fn finish(words: Words, last: Step, number: u8, taken: bool)
+// Says where the run stopped on standard error, and the ending to who asked for it.
+fn report(words: Words, last: Step, number: u8, t: Tally, o: Ending)
     requires { ⌜ number ≡ numberOf (last .answer) ⌝ }
+    requires { ⌜ o ≡ endingBy number (t .written .taken) ⌝ }
 {
     let state = last.state;
-    words::finish(words, b"tally", number, stream::consumed(state), taken);
+    words::stopped(b"tally", number, stream::consumed(state), printed::taken(t));
+    words::say(words, o);
 }
 
 // Runs the stream, and prints the counts. The answer tells of the reads and of the write. It is small: a larger one, with the last message, slows the loop.
@@ -180,12 +225,9 @@ pub fn print_tally(words: Words) -> Tally
     let answer = step.answer;
     let n = put_tally(&count, state.messages, answer, &mut out);
     let tally = printed::write(&count, last, &out[..n]);
-    finish(
-        words,
-        step,
-        tally_lines::number_of(answer),
-        printed::taken(tally),
-    );
+    let number = tally_lines::number_of(answer);
+    let taken = printed::taken(tally);
+    report(words, step, number, tally, words::ending_by(number, taken));
     tally
 }
 

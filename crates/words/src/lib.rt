@@ -157,9 +157,8 @@ pub fn ending_by(number: u8, taken: bool) -> Ending
     Ending::Found
 }
 
-// The end of a program that runs the stream: on standard error, where in the recording it stopped, unless that is its clean end, and whether a write
-// failed; and the byte.
-pub fn finish(w: Words, name: &[u8], number: u8, offset: u64, taken: bool) {
+// On standard error, where in the recording a run of the stream stopped, unless that is its clean end, and whether a write failed.
+pub fn stopped(name: &[u8], number: u8, offset: u64, taken: bool) {
     if number != 0 {
         io::write_all(2, name);
         io::write_all(2, b": stopped with ");
@@ -172,5 +171,10 @@ pub fn finish(w: Words, name: &[u8], number: u8, offset: u64, taken: bool) {
         io::write_all(2, name);
         io::write_all(2, b": a write failed\n");
     }
+}
+
+// The end of a program that runs the stream: what `stopped` says, and the byte.
+pub fn finish(w: Words, name: &[u8], number: u8, offset: u64, taken: bool) {
+    stopped(name, number, offset, taken);
     say(w, ending_by(number, taken));
 }

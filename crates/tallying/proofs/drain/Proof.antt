@@ -3,8 +3,9 @@
 use Prim.Native.Nat.{_-_}
 use mathlib.Core.Path.{sym, _∙_}
 use native.Mathlib.Omega.{arith}
-use Rattle.stream_laws.proofs.Calls.{not-message}
+use borrow.Author.Tests.{not-true, not-false}
 use Rattle.tallying.specs.Counts.{Skimmed, none}
+use Rattle.tallying.proofs.Answers.{Raises, message-is, message-not}
 use Rattle.tallying.proofs.Counting.{counter-below, rises, again, counts}
 use Rattle.tallying.proofs.Skimming.{onward, rising}
 use borrow.Author.Needs.{needs}
@@ -26,8 +27,8 @@ skim-requires c κs = (c .before .loop .inv .counted, c .before .before .before 
 next-of-requires : tie.Need-next-of-requires Inv-loop μ-loop
 next-of-requires c κs = search needs
 
-enum-known-answer : tie.Need-enum-known-answer Inv-loop μ-loop
-enum-known-answer c = search needs
+message-requires : tie.Need-message-requires Inv-loop μ-loop
+message-requires c κs = search needs
 
 same-length : tie.Need-same-length Inv-loop μ-loop
 same-length c = c .before .before .before .before .before .skim .ensures .counted .all ∙ sym (c .before .before .before .before .before .before .before .before .before .before .pre .0 .all)
@@ -35,33 +36,42 @@ same-length c = c .before .before .before .before .before .skim .ensures .counte
 returns : tie.Need-returns Inv-loop μ-loop
 returns c =
     let p = onward (c .before .before .before .before .before .before .before .loop .inv) (c .before .before .before .before .before .skim .ensures) in
-    record { last = c .before .before .before .before .before .skim .result; taken = p .taken; step = c .before .before .next-of .ensures; stops = not-message (c .match .keys2); counted = counts _ _ _ _ (p .counted) (c .before .before .next-of .ensures) (not-message (c .match .keys2)) }
+    let q = message-not _ (sym (c .before .message .ensures) ∙ not-true _ (c .if1 .taken)) in
+    record { last = c .before .before .before .before .before .skim .result; taken = p .taken; step = c .before .before .next-of .ensures; stops = q; counted = counts _ _ _ _ (p .counted) (c .before .before .next-of .ensures) q }
+
+counter-requires : tie.Need-counter-requires Inv-loop μ-loop
+counter-requires c κs = search needs
 
 cast-k : tie.Need-cast-k Inv-loop μ-loop
 cast-k c = search needs
 
 mul-count : tie.Need-mul-count Inv-loop μ-loop
-mul-count c = omega (arith, c .before .before .before .before .before .before .before .before .skim .ensures .counted .all)
+mul-count c = omega (arith, c .before .before .before .before .before .before .skim .ensures .counted .all)
 
 slice-read-count : tie.Need-slice-read-count Inv-loop μ-loop
-slice-read-count c = omega (arith, c .before .before .before .before .before .before .before .before .before .skim .ensures .counted .all)
+slice-read-count c = omega (arith, c .before .before .before .before .before .before .before .skim .ensures .counted .all, c .before .counter .ok)
 
 add-count : tie.Need-add-count Inv-loop μ-loop
-add-count c = omega (arith, c .before .before .before .before .before .before .next-of .ok, rises _ _ _ _ (c .before .before .before .before .before .before .next-of .ensures) (c .before .before .before .answer .given .1), counter-below (c .before .before .before .answer .given .0 .0 .tag) (c .before .before .before .before .before .before .before .before .before .skim .ensures .counted))
+add-count c =
+    let t = message-is (c .before .before .before .before .next-of .result .answer) (sym (c .before .before .before .message .ensures) ∙ not-false _ (c .before .before .if1 .left)) in
+    omega (arith, c .before .before .before .before .next-of .ok, rises _ _ _ _ (c .before .before .before .before .next-of .ensures) (t .is), counter-below (c .before .counter .result) (c .before .before .before .before .before .before .before .skim .ensures .counted))
 
 mul-count-2 : tie.Need-mul-count-2 Inv-loop μ-loop
-mul-count-2 c = omega (arith, c .before .before .before .before .before .before .before .before .before .skim .ensures .counted .all)
+mul-count-2 c = omega (arith, c .before .before .before .before .before .before .before .skim .ensures .counted .all)
 
 slice-write-count : tie.Need-slice-write-count Inv-loop μ-loop
-slice-write-count c = omega (arith, c .before .before .before .before .before .before .before .before .before .skim .ensures .counted .all)
+slice-write-count c = omega (arith, c .before .before .before .before .before .before .before .skim .ensures .counted .all, c .before .counter .ok)
 
 loop-less : tie.Need-loop-less Inv-loop μ-loop
-loop-less c = omega (arith, c .before .before .before .before .before .before .next-of .ok, rises _ _ _ _ (c .before .before .before .before .before .before .next-of .ensures) (c .before .before .before .answer .given .1), rising (c .before .before .before .before .before .before .before .before .before .skim .ensures .taken))
+loop-less c =
+    let t = message-is (c .before .before .before .before .before .next-of .result .answer) (sym (c .before .before .before .before .message .ensures) ∙ not-false _ (c .before .before .before .if1 .left)) in
+    omega (arith, c .before .before .before .before .before .next-of .ok, rises _ _ _ _ (c .before .before .before .before .before .next-of .ensures) (t .is), rising (c .before .before .before .before .before .before .before .before .skim .ensures .taken))
 
 loop-again : tie.Need-loop-again Inv-loop μ-loop
 loop-again c =
-    let p = onward (c .before .before .before .before .before .before .before .before .before .before .before .loop .inv) (c .before .before .before .before .before .before .before .before .before .skim .ensures) in
-    again p (c .before .before .before .before .before .before .next-of .ensures) (c .before .before .before .answer .given .1) (search needs)
+    let t = message-is (c .before .before .before .before .before .next-of .result .answer) (sym (c .before .before .before .before .message .ensures) ∙ not-false _ (c .before .before .before .if1 .left)) in
+    rw (c .before .before .counter .ensures ∙ t .tag)
+    (again (onward (c .before .before .before .before .before .before .before .before .before .before .loop .inv) (c .before .before .before .before .before .before .before .before .skim .ensures)) (c .before .before .before .before .before .next-of .ensures) (t .is) (omega (arith, t .tag, c .before .before .counter .ensures, c .before .before .counter .ok)))
 
 pub drain-spec : {M : Type 1} → statement M
 drain-spec =
@@ -72,9 +82,10 @@ drain-spec =
     loop-holds
     skim-requires
     next-of-requires
-    enum-known-answer
+    message-requires
     same-length
     returns
+    counter-requires
     cast-k
     mul-count
     slice-read-count

@@ -1,11 +1,12 @@
 -- `tallying::print_tally` meets its contract.
 -- Assumes nothing.
 use Prim.Native.Nat.{ℕ}
-use mathlib.Core.Path.{refl, sym}
+use mathlib.Core.Path.{refl, sym, ap, _∙_}
 use mathlib.Core.List.{List}
 use native.Mathlib.Omega.{arith}
 use lib.ListN.{replicate, take}
 use lib.Seq.{length-take-le}
+use Rattle.words.specs.Words.{endingBy}
 use Rattle.text.specs.Decimal.{Wrote}
 use Rattle.text.proofs.Laws.{wrote-long, wrote-front}
 use Rattle.tally_lines.specs.Lines.{tallyOf}
@@ -58,17 +59,20 @@ number-of-requires c κs = search needs
 taken-requires : tie.Need-taken-requires
 taken-requires c κs = search needs
 
-finish-requires : tie.Need-finish-requires
-finish-requires c κs = search needs
+ending-by-requires : tie.Need-ending-by-requires
+ending-by-requires c κs = search needs
+
+report-requires : tie.Need-report-requires
+report-requires c κs = (c .before .before .number-of .ensures, c .ending-by .ensures ∙ ap (endingBy (c .before .before .number-of .result)) (c .before .taken .ensures))
 
 returns : tie.Need-returns
 returns c = record {
   last = _;
-  reads = c .before .before .before .write .ensures .0;
+  reads = c .before .before .before .before .write .ensures .0;
   count = _;
   text = _;
-  printed = printed (c .before .before .before .before .before .before .before .before .before .before .before .before .before .run .ensures) (c .before .before .before .before .before .before .before .put-tally .ensures);
-  bytes = c .before .before .before .write .ensures .1;
+  printed = printed (c .before .before .before .before .before .before .before .before .before .before .before .before .before .before .run .ensures) (c .before .before .before .before .before .before .before .before .put-tally .ensures);
+  bytes = c .before .before .before .before .write .ensures .1;
 }
 
 pub print-tally-spec : {M : Type 1} → statement M
@@ -86,5 +90,6 @@ print-tally-spec =
     write-requires
     number-of-requires
     taken-requires
-    finish-requires
+    ending-by-requires
+    report-requires
     returns)

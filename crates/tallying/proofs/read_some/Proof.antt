@@ -1,27 +1,21 @@
 -- `tallying::read_some` meets its contract.
 -- Assumes nothing.
 use Prim.Native.Nat.{_≤_}
-use mathlib.Core.Path.{refl}
+use mathlib.Core.Path.{refl, sym, _∙_}
 use native.Mathlib.Omega.{arith}
+use borrow.Author.Tests.{not-true, not-false}
 use lib.ListN.{length}
-use Rattle.stream_laws.proofs.Calls.{not-ready}
+use Rattle.tallying.proofs.Answers.{ready-is, ready-not}
 use Rattle.tallying.proofs.Turns.{roomy, no-read, one-read}
 use borrow.Author.Needs.{needs}
 use Rattle.tallying.proofs.read_some.Statement.{statement}
 use Rattle.tallying.proofs.read_some.Tie as tie
 
--- the free part begins within the buffer
-free : (c : tie.After-enum-told) → c .before .before .before .before .before .make-room-of .result .state .end ≤ length (c .before .before .before .before .before .make-room-of .last .1 .0)
-free c =
-    let m = c .before .before .before .before .before .make-room-of in
-    let h = roomy (c .before .before .before .before .before .before .before .before .args .s) _ (m .result) (m .ensures .0) (c .enum-told .given .1) in
-    omega (arith, h .whole, h .free, m .kept .1 .0)
-
 make-room-of-requires : tie.Need-make-room-of-requires
 make-room-of-requires c κs = search needs
 
-enum-told : tie.Need-enum-told
-enum-told c = search needs
+ready-requires : tie.Need-ready-requires
+ready-requires c κs = search needs
 
 same-length : tie.Need-same-length
 same-length c = search needs
@@ -29,13 +23,17 @@ same-length c = search needs
 returns : tie.Need-returns
 returns c =
     let m = c .before .before .before .before .make-room-of in
-    no-read (c .before .before .before .before .before .before .before .args .s) _ _ (m .result) _ _ (m .ensures .0) (not-ready (c .match .keys2)) refl refl (m .kept .1 .0)
+    no-read (c .before .before .before .before .before .before .before .args .s) _ _ (m .result) _ _ (m .ensures .0) (ready-not _ (sym (c .before .ready .ensures) ∙ not-true _ (c .if1 .taken))) refl refl (m .kept .1 .0)
 
+-- the free part begins within the buffer
 sub-read : tie.Need-sub-read
-sub-read c = free c
+sub-read c =
+    let m = c .before .before .before .before .before .make-room-of in
+    let h = roomy (c .before .before .before .before .before .before .before .before .args .s) _ (m .result) (m .ensures .0) (ready-is _ (sym (c .before .before .ready .ensures) ∙ not-false _ (c .before .if1 .left))) in
+    omega (arith, h .whole, h .free, m .kept .1 .0)
 
 part-read-start : tie.Need-part-read-start
-part-read-start c = free c
+part-read-start c = sub-read c
 
 part-read-end : tie.Need-part-read-end
 part-read-end c = search needs
@@ -52,7 +50,9 @@ same-length-2 c = search needs
 returns-2 : tie.Need-returns-2
 returns-2 c =
     let m = c .before .before .before .before .before .before .before .before .before .before .make-room-of in
-    one-read (c .before .before .before .before .before .before .before .before .before .before .before .before .before .args .s) _ _ (m .result) (m .last .1 .0) _ _ (m .ensures .0) (c .before .before .before .before .before .enum-told .given .1) (m .ensures .1) (free (c .before .before .before .before .before)) (same-length-2 c) (m .kept .1 .0)
+    let a = ready-is _ (sym (c .before .before .before .before .before .before .before .ready .ensures) ∙ not-false _ (c .before .before .before .before .before .before .if1 .left)) in
+    let h = roomy (c .before .before .before .before .before .before .before .before .before .before .before .before .before .args .s) _ (m .result) (m .ensures .0) a in
+    one-read (c .before .before .before .before .before .before .before .before .before .before .before .before .before .args .s) _ _ (m .result) (m .last .1 .0) _ _ (m .ensures .0) a (m .ensures .1) (omega (arith, h .whole, h .free, m .kept .1 .0)) (same-length-2 c) (m .kept .1 .0)
     (c .before .before .before .read .ensures) (c .tell .ensures)
 
 pub read-some-spec : {M : Type 1} → statement M
@@ -60,7 +60,7 @@ read-some-spec =
     tie.close
     (tie.spec
     make-room-of-requires
-    enum-told
+    ready-requires
     same-length
     returns
     sub-read

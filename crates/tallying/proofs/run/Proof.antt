@@ -3,9 +3,10 @@
 use Prim.Native.Nat.{_-_}
 use mathlib.Core.Path.{_≡_, sym, _∙_}
 use native.Mathlib.Omega.{arith}
+use borrow.Author.Tests.{not-true, not-false}
 use lib.ListN.{length}
-use Rattle.stream_laws.proofs.Calls.{not-wants, not-ready}
 use Rattle.tallying.specs.Counts.{Counters}
+use Rattle.tallying.proofs.Answers.{wants-is, wants-not, ready-is, ready-not}
 use Rattle.tallying.proofs.Counting.{counters-on, drained-calls}
 use Rattle.tallying.proofs.Turns.{turned}
 use Rattle.tallying.proofs.Going.{Going, going-start, tallied-next, tallied-read, going-on}
@@ -37,14 +38,14 @@ slice-aggregate-drain c = search needs
 drain-requires : tie.Need-drain-requires Inv-loop μ-loop
 drain-requires c κs = (c .before .before .before .loop .inv .0, c .before .before .before .loop .inv .1, c .before .before .before .before .before .before .rows .ensures)
 
-enum-told : tie.Need-enum-told Inv-loop μ-loop
-enum-told c = search needs
+wants-requires : tie.Need-wants-requires Inv-loop μ-loop
+wants-requires c κs = search needs
 
 same-length : tie.Need-same-length Inv-loop μ-loop
 same-length c = c .before .before .before .before .drain .ensures .counted .all ∙ sym (c .before .before .before .before .before .before .before .before .before .before .before .before .before .pre .all)
 
 returns : tie.Need-returns Inv-loop μ-loop
-returns c = tallied-next (c .before .before .before .before .before .before .before .before .loop .inv .2) (c .before .before .before .before .drain .ensures) (not-wants (c .match .keys2))
+returns c = tallied-next (c .before .before .before .before .before .before .before .before .loop .inv .2) (c .before .before .before .before .drain .ensures) (wants-not _ (sym (c .before .wants .ensures) ∙ not-true _ (c .if1 .taken)))
 
 slice-aggregate-read-some : tie.Need-slice-aggregate-read-some Inv-loop μ-loop
 slice-aggregate-read-some c = search needs
@@ -52,24 +53,27 @@ slice-aggregate-read-some c = search needs
 read-some-requires : tie.Need-read-some-requires Inv-loop μ-loop
 read-some-requires c κs = search needs
 
-enum-told-2 : tie.Need-enum-told-2 Inv-loop μ-loop
-enum-told-2 c = search needs
+ready-requires : tie.Need-ready-requires Inv-loop μ-loop
+ready-requires c κs = search needs
 
 same-length-2 : tie.Need-same-length-2 Inv-loop μ-loop
-same-length-2 c = c .before .before .before .before .before .before .before .before .before .before .before .before .drain .ensures .counted .all ∙ sym (c .before .before .before .before .before .before .before .before .before .before .before .before .before .before .before .before .before .before .before .before .before .pre .all)
+same-length-2 c = c .before .before .before .before .before .before .before .before .before .drain .ensures .counted .all ∙ sym (c .before .before .before .before .before .before .before .before .before .before .before .before .before .before .before .before .before .before .pre .all)
 
 returns-2 : tie.Need-returns-2 Inv-loop μ-loop
 returns-2 c =
-    tallied-read (c .before .before .before .before .before .before .before .before .before .before .before .before .before .before .before .before .loop .inv .2) (c .before .before .before .before .before .before .before .before .before .before .before .before .drain .ensures) (c .before .before .before .before .before .before .before .enum-told .given .1) _ _ (c .before .before .before .before .before .read-some .ensures) (not-ready (c .match2 .keys2))
+    tallied-read (c .before .before .before .before .before .before .before .before .before .before .before .before .before .loop .inv .2) (c .before .before .before .before .before .before .before .before .before .drain .ensures) (wants-is _ (sym (c .before .before .before .before .before .before .wants .ensures) ∙ not-false _ (c .before .before .before .before .before .if1 .left))) _ _ (c .before .before .before .read-some .ensures)
+    (ready-not _ (sym (c .before .ready .ensures) ∙ not-true _ (c .if2 .taken)))
 
 loop-less : tie.Need-loop-less Inv-loop μ-loop
-loop-less c = omega (arith, c .before .before .before .before .before .before .before .before .before .before .before .before .before .drain .ok, drained-calls (c .before .before .before .before .before .before .before .before .before .before .before .before .before .drain .ensures), turned _ _ _ _ _ (c .before .before .before .before .before .before .read-some .ensures) .calls (c .enum-told2 .given .1))
+loop-less c =
+    omega (arith, c .before .before .before .before .before .before .before .before .before .before .before .drain .ok, drained-calls (c .before .before .before .before .before .before .before .before .before .before .before .drain .ensures), turned _ _ _ _ _ (c .before .before .before .before .before .read-some .ensures) .calls (ready-is _ (sym (c .before .before .before .ready .ensures) ∙ not-false _ (c .before .before .if2 .left))))
 
 loop-again : tie.Need-loop-again Inv-loop μ-loop
 loop-again c = (
-  counters-on (c .before .before .before .before .before .before .before .before .before .before .before .before .before .drain .ensures .counted) (turned _ _ _ _ _ (c .before .before .before .before .before .before .read-some .ensures) .messages),
-  c .before .before .before .before .before .before .read-some .kept .1 .1 .0 ∙ c .before .before .before .before .before .before .before .before .before .before .before .before .before .before .before .before .before .loop .inv .1,
-  going-on (c .before .before .before .before .before .before .before .before .before .before .before .before .before .before .before .before .before .loop .inv .2) (c .before .before .before .before .before .before .before .before .before .before .before .before .before .drain .ensures) (c .before .before .before .before .before .before .before .before .enum-told .given .1) _ _ (c .before .before .before .before .before .before .read-some .ensures) (c .enum-told2 .given .1),
+  counters-on (c .before .before .before .before .before .before .before .before .before .before .before .drain .ensures .counted) (turned _ _ _ _ _ (c .before .before .before .before .before .read-some .ensures) .messages),
+  c .before .before .before .before .before .read-some .kept .1 .1 .0 ∙ c .before .before .before .before .before .before .before .before .before .before .before .before .before .before .before .loop .inv .1,
+  going-on (c .before .before .before .before .before .before .before .before .before .before .before .before .before .before .before .loop .inv .2) (c .before .before .before .before .before .before .before .before .before .before .before .drain .ensures) (wants-is _ (sym (c .before .before .before .before .before .before .before .before .wants .ensures) ∙ not-false _ (c .before .before .before .before .before .before .before .if1 .left))) _ _ (c .before .before .before .before .before .read-some .ensures)
+      (ready-is _ (sym (c .before .before .before .ready .ensures) ∙ not-false _ (c .before .before .if2 .left))),
 )
 
 pub run-spec : {M : Type 1} → statement M
@@ -84,12 +88,12 @@ run-spec =
     loop-holds
     slice-aggregate-drain
     drain-requires
-    enum-told
+    wants-requires
     same-length
     returns
     slice-aggregate-read-some
     read-some-requires
-    enum-told-2
+    ready-requires
     same-length-2
     returns-2
     loop-less
