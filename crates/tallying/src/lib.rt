@@ -61,8 +61,6 @@ fn skim(s0: Stream, b: &[u8], rows: &[u64; 256], count: &mut [u64]) -> Stream
     }
 }
 
-// What is asked of an answer stands in functions of its own: a function that takes answers apart is dear to check, the more so the longer it is.
-
 // Whether the window wants bytes.
 fn wants(s: Step) -> bool
     ensures { λ r. ⌜ r ≡ isWants (s .answer) ⌝ }
