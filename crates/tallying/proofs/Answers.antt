@@ -7,7 +7,7 @@ use native.Mathlib.Omega.{arith}
 use Rattle.records.specs.declared.Message.{Message as Record}
 use Rattle.stream.specs.declared.Answer.{Answer}
 use Rattle.stream.specs.declared.Answer.the-variants.{Message, Wants, Ready, Nothing, Refused}
-use Rattle.tallying.specs.Answers.{isMessage, counterOf, isWants, isReady}
+use Rattle.tallying.specs.Answers.{isMessage, counterOf, isWants}
 
 pub wants-is : (a : Answer) → isWants a ≡ true → a ≡ Wants
 wants-is (Message m) e = absurd (let z : _≡_ {A = ℕ} 0 1 = cc in omega arith)
@@ -18,16 +18,6 @@ wants-is (Refused n p) e = absurd (let z : _≡_ {A = ℕ} 0 1 = cc in omega ari
 
 pub wants-not : (a : Answer) → isWants a ≡ false → a ≡ Wants → ⊥
 wants-not a e f = let g = ap isWants f in let z : _≡_ {A = ℕ} 0 1 = cc in omega arith
-
-pub ready-is : (a : Answer) → isReady a ≡ true → a ≡ Ready
-ready-is (Message m) e = absurd (let z : _≡_ {A = ℕ} 0 1 = cc in omega arith)
-ready-is Wants e = absurd (let z : _≡_ {A = ℕ} 0 1 = cc in omega arith)
-ready-is Ready e = refl
-ready-is Nothing e = absurd (let z : _≡_ {A = ℕ} 0 1 = cc in omega arith)
-ready-is (Refused n p) e = absurd (let z : _≡_ {A = ℕ} 0 1 = cc in omega arith)
-
-pub ready-not : (a : Answer) → isReady a ≡ false → a ≡ Ready → ⊥
-ready-not a e f = let g = ap isReady f in let z : _≡_ {A = ℕ} 0 1 = cc in omega arith
 
 -- a message, and the counter that it raises
 pub record Raises (a : Answer) (k : ℕ) : Type 0 where

@@ -31,11 +31,12 @@ use Rattle.heard.proofs.Inputs.{heard-cut, heard-bad}
 use Rattle.heard.proofs.Windows.{room-same}
 use Rattle.heard.proofs.Holds.{Holds, roomed-holds, holds}
 use Rattle.heard.proofs.Ended.{ended as heard-ended}
-use Rattle.tallying.specs.declared.Turn.{Turn}
+use Rattle.feeding.specs.declared.Turn.{Turn}
+use Rattle.feeding.specs.Turns.{Came, Fed}
+use Rattle.feeding.proofs.Turns.{ready-or, tell-case, turned}
 use Rattle.tallying.specs.Counts.{raised, Taken, none, more, Drained}
-use Rattle.tallying.specs.Reads.{Came, ReadSome, countsOf, Ends, judged, ended, failed, full, Tallied}
+use Rattle.tallying.specs.Reads.{countsOf, Ends, judged, ended, failed, full, Tallied}
 use Rattle.tallying.proofs.Counting.{counters-on, drained-stops}
-use Rattle.tallying.proofs.Turns.{ready-or, tell-case, turned}
 
 abbrev Any : Cutting
 Any room r n = Unit
@@ -266,12 +267,12 @@ module _ {c₀ : List ℕ} {s : Stream} {v : Brought} {b c : List ℕ} {r : Step
     counted = D .counted;
   }
 
-  module _ (w : r .answer ≡ Wants) (x : Turn) (e : List ℕ) (R : ReadSome (r .state) v b x e) where
+  module _ (w : r .answer ≡ Wants) (x : Turn) (e : List ℕ) (R : Fed (r .state) v b x e) where
     wants′ : nextOf (D .last) b .answer ≡ Wants
     wants′ = sym answers ∙ w
 
-    R′ : ReadSome (nextOf (D .last) b .state) v b x e
-    R′ = subst (λ (y : Step). ReadSome (y .state) v b x e) (D .step) R
+    R′ : Fed (nextOf (D .last) b .state) v b x e
+    R′ = subst (λ (y : Step). Fed (y .state) v b x e) (D .step) R
 
     -- bytes came
     pub going-on : x .step .answer ≡ Ready → Going c₀ (x .step .state) (x .brought) e d

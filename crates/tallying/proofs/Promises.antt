@@ -12,7 +12,7 @@ use Rattle.records.specs.declared.Message.{Message as Record}
 use Rattle.stream.specs.declared.Answer.{Answer}
 use Rattle.stream.specs.declared.Answer.the-variants.{Nothing}
 use Rattle.heard.specs.Heard.{Heard, heardAt, heardOf}
-use Rattle.tallying.specs.declared.Turn.{Turn}
+use Rattle.feeding.specs.declared.Turn.{Turn}
 use Rattle.tallying.specs.Reads.{Ends, judged, ended, failed, full, Tallied}
 
 -- nothing more only behind a read that brought nothing

@@ -1,4 +1,4 @@
--- What the run asks of an answer: whether it is a message, and which counter it raises; whether the window wants bytes; whether it is ready.
+-- What the run asks of an answer: whether it is a message, and which counter it raises; whether the window wants bytes.
 -- Assumes nothing.
 use Prim.Native.Nat.{ℕ}
 use mathlib.Core.Bool.{Bool, true, false}
@@ -26,10 +26,3 @@ isWants Wants = true
 isWants Ready = false
 isWants Nothing = false
 isWants (Refused n p) = false
-
-abbrev pub isReady : Answer → Bool
-isReady (Message m) = false
-isReady Wants = false
-isReady Ready = true
-isReady Nothing = false
-isReady (Refused n p) = false

@@ -1,42 +1,22 @@
--- What the reads of standard input have to do with the counters: each read is told to the stream as what it brought; and the messages counted, and the
--- answer that ends the run, are what the bytes brought by all reads hold.
+-- What the reads of standard input have to do with the counters: the messages counted, and the answer that ends the run, are what the bytes brought by
+-- all reads hold.
 -- Assumes nothing.
-use Prim.Native.Nat.{ℕ, _-_, _≤_, min}
+use Prim.Native.Nat.{ℕ, _≤_, min}
 use mathlib.Core.Path.{_≡_}
-use mathlib.Core.Bool.{true, false, cond}
+use mathlib.Core.Bool.{true, false}
 use mathlib.Core.List.{List, [], _∷_}
-use lib.ListN.{length, take}
+use lib.ListN.{length}
 use Rattle.standard.specs.declared.Brought.{Brought}
-use Rattle.standard.specs.Reads.{Reads, Silent}
+use Rattle.standard.specs.Reads.{Silent}
 use Rattle.records.specs.declared.Message.{Message as Record}
-use Rattle.stream.specs.declared.Stream.{Stream}
-use Rattle.stream.specs.declared.Step.{Step}
 use Rattle.stream.specs.declared.Answer.{Answer}
-use Rattle.stream.specs.declared.Answer.the-variants.{Ready, Refused}
-use Rattle.stream.specs.Room.{roomOf, roomBuffer}
-use Rattle.stream.specs.Told.{toldOf, failedOf}
+use Rattle.stream.specs.declared.Answer.the-variants.{Refused}
 use Rattle.heard.specs.Heard.{Heard, before, stopAt, heardOf}
 use Rattle.heard.specs.Runs.{Fits}
 use Rattle.tally_lines.specs.Lines.{tallyOf}
-use Rattle.tallying.specs.declared.Turn.{Turn}
+use Rattle.feeding.specs.declared.Turn.{Turn}
 use Rattle.tallying.specs.declared.printed.Tally.{Tally}
 use Rattle.tallying.specs.Counts.{Counters, raised}
-
--- what the state is told of a read
-abbrev pub tellOf : Stream → Brought → Step
-tellOf s b = cond (b .failed) (failedOf s) (toldOf s (b .bytes))
-
--- a read into the free part of the buffer that room was made in: what stands before the free part stays, and the state is told what the read brought
-pub record Came (s : Stream) (v : Brought) (b : List ℕ) (r : Turn) (c : List ℕ) : Type 0 where
-  pub reads : Reads v (length b - roomOf s (length b) .state .end) (r .brought)
-  pub front : take (roomOf s (length b) .state .end) c ≡ take (roomOf s (length b) .state .end) (roomBuffer s b)
-  pub step : r .step ≡ tellOf (roomOf s (length b) .state) (r .brought)
-
--- a turn from state s, reads v and buffer b, to r and buffer c: where no room is made that is its answer, and there is no read
-pub record ReadSome (s : Stream) (v : Brought) (b : List ℕ) (r : Turn) (c : List ℕ) : Type 0 where
-  pub long : length c ≡ length b
-  pub no-room : (roomOf s (length b) .answer ≡ Ready → ⊥) → (r .step ≡ roomOf s (length b)) × (r .brought ≡ v)
-  pub came : roomOf s (length b) .answer ≡ Ready → Came s v b r c
 
 -- the counters behind messages
 abbrev pub countsOf : List ℕ → List Record → List ℕ

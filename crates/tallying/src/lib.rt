@@ -8,14 +8,14 @@ ghost use Rattle.words.specs.Words.{endingBy};
 ghost use Rattle.stream.specs.Meaning.{numberOf};
 ghost use Rattle.tally_lines.specs.Lines.{tallyOf};
 ghost use Rattle.plain.specs.Plain.{Table};
-ghost use Rattle.tallying.specs.Answers.{isMessage, isWants, isReady, counterOf};
+ghost use Rattle.tallying.specs.Answers.{isMessage, isWants, counterOf};
 ghost use Rattle.tallying.specs.Counts.{Counters, Skimmed, Drained};
-ghost use Rattle.tallying.specs.Reads.{tellOf, ReadSome, Tallied, Finished};
+ghost use Rattle.tallying.specs.Reads.{Tallied, Finished};
 
 mod printed;
 
+use feeding::Turn;
 pub use printed::Tally;
-use standard::Brought;
 use stream::Answer;
 use stream::Step;
 use stream::Stream;
@@ -75,20 +75,6 @@ fn wants(s: Step) -> bool
     }
 }
 
-// Whether there is room, or bytes came.
-fn ready(s: Step) -> bool
-    ensures { λ r. ⌜ r ≡ isReady (s .answer) ⌝ }
-{
-    let answer = s.answer;
-    match answer {
-        Answer::Message(_) => false,
-        Answer::Wants => false,
-        Answer::Ready => true,
-        Answer::Nothing => false,
-        Answer::Refused(_, _) => false,
-    }
-}
-
 // Whether it is a message.
 fn message(s: Step) -> bool
     ensures { λ r. ⌜ r ≡ isMessage (s .answer) ⌝ }
@@ -136,40 +122,6 @@ fn drain(s0: Stream, b: &[u8], rows: &[u64; 256], count: &mut [u64]) -> Step
     }
 }
 
-// What the state is told of a read.
-fn tell(s: Stream, b: Brought) -> Step
-    ensures { λ r. ⌜ r ≡ tellOf s b ⌝ }
-{
-    if standard::failed(b) {
-        return stream::told_failed_of(s);
-    }
-    stream::told_of(s, standard::bytes(b))
-}
-
-// A turn: the state and the answer behind it, and what its read brought.
-struct Turn {
-    step: Step,
-    brought: Brought,
-}
-
-// Room is made, the free part of the buffer is handed on for the read, and the state is told what came of it.
-fn read_some(s: Stream, b: Brought, buf: &mut [u8]) -> Turn
-    ensures { λ r. ⌜ ReadSome s b (now (buf .entry)) r (now (buf .exit)) ⌝ }
-{
-    let room = stream::make_room_of(s, buf);
-    if !ready(room) {
-        return Turn {
-            step: room,
-            brought: b,
-        };
-    }
-    let state = room.state;
-    let end = state.end;
-    let brought = standard::read(b, &mut buf[end..]);
-    let step = tell(state, brought);
-    Turn { step, brought }
-}
-
 // Drains the window and reads, to the first answer that stops.
 fn run(count: &mut [u64]) -> Turn
     requires { ⌜ Counters (now count) 0 ⌝ }
@@ -184,8 +136,8 @@ fn run(count: &mut [u64]) -> Turn
         if !wants(step) {
             return Turn { step, brought: b };
         }
-        let turn = read_some(step.state, b, &mut buf);
-        if !ready(turn.step) {
+        let turn = feeding::feed(step.state, b, &mut buf);
+        if !feeding::ready(turn.step) {
             return turn;
         }
         s = turn.step.state;

@@ -2,7 +2,7 @@
 ghost use mathlib.Core.Path.{_≡_};
 ghost use lib.ListN.{length};
 ghost use Rattle.tallying.specs.Reads.{Printed};
-use super::Turn;
+use feeding::Turn;
 use standard::Brought;
 use standard::Written;
 

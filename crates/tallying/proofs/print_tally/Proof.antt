@@ -10,7 +10,7 @@ use Rattle.words.specs.Words.{endingBy}
 use Rattle.text.specs.Decimal.{Wrote}
 use Rattle.text.proofs.Laws.{wrote-long, wrote-front}
 use Rattle.tally_lines.specs.Lines.{tallyOf}
-use Rattle.tallying.specs.declared.Turn.{Turn}
+use Rattle.feeding.specs.declared.Turn.{Turn}
 use Rattle.tallying.specs.Counts.{sum}
 use Rattle.tallying.specs.Reads.{Tallied, Printed, Finished}
 use borrow.Author.Needs.{needs}

@@ -5,10 +5,10 @@ use mathlib.Core.Path.{_≡_, sym, _∙_}
 use native.Mathlib.Omega.{arith}
 use borrow.Author.Tests.{not-true, not-false}
 use lib.ListN.{length}
+use Rattle.feeding.proofs.Turns.{ready-is, ready-not, turned}
 use Rattle.tallying.specs.Counts.{Counters}
-use Rattle.tallying.proofs.Answers.{wants-is, wants-not, ready-is, ready-not}
+use Rattle.tallying.proofs.Answers.{wants-is, wants-not}
 use Rattle.tallying.proofs.Counting.{counters-on, drained-calls}
-use Rattle.tallying.proofs.Turns.{turned}
 use Rattle.tallying.proofs.Going.{Going, going-start, tallied-next, tallied-read, going-on}
 use borrow.Author.Needs.{needs}
 use Rattle.tallying.proofs.run.Statement.{statement}
@@ -47,11 +47,11 @@ same-length c = c .before .before .before .before .drain .ensures .counted .all 
 returns : tie.Need-returns Inv-loop μ-loop
 returns c = tallied-next (c .before .before .before .before .before .before .before .before .loop .inv .2) (c .before .before .before .before .drain .ensures) (wants-not _ (sym (c .before .wants .ensures) ∙ not-true _ (c .if1 .taken)))
 
-slice-aggregate-read-some : tie.Need-slice-aggregate-read-some Inv-loop μ-loop
-slice-aggregate-read-some c = search needs
+slice-aggregate-feed : tie.Need-slice-aggregate-feed Inv-loop μ-loop
+slice-aggregate-feed c = search needs
 
-read-some-requires : tie.Need-read-some-requires Inv-loop μ-loop
-read-some-requires c κs = search needs
+feed-requires : tie.Need-feed-requires Inv-loop μ-loop
+feed-requires c κs = search needs
 
 ready-requires : tie.Need-ready-requires Inv-loop μ-loop
 ready-requires c κs = search needs
@@ -61,18 +61,18 @@ same-length-2 c = c .before .before .before .before .before .before .before .bef
 
 returns-2 : tie.Need-returns-2 Inv-loop μ-loop
 returns-2 c =
-    tallied-read (c .before .before .before .before .before .before .before .before .before .before .before .before .before .loop .inv .2) (c .before .before .before .before .before .before .before .before .before .drain .ensures) (wants-is _ (sym (c .before .before .before .before .before .before .wants .ensures) ∙ not-false _ (c .before .before .before .before .before .if1 .left))) _ _ (c .before .before .before .read-some .ensures)
+    tallied-read (c .before .before .before .before .before .before .before .before .before .before .before .before .before .loop .inv .2) (c .before .before .before .before .before .before .before .before .before .drain .ensures) (wants-is _ (sym (c .before .before .before .before .before .before .wants .ensures) ∙ not-false _ (c .before .before .before .before .before .if1 .left))) _ _ (c .before .before .before .feed .ensures)
     (ready-not _ (sym (c .before .ready .ensures) ∙ not-true _ (c .if2 .taken)))
 
 loop-less : tie.Need-loop-less Inv-loop μ-loop
 loop-less c =
-    omega (arith, c .before .before .before .before .before .before .before .before .before .before .before .drain .ok, drained-calls (c .before .before .before .before .before .before .before .before .before .before .before .drain .ensures), turned _ _ _ _ _ (c .before .before .before .before .before .read-some .ensures) .calls (ready-is _ (sym (c .before .before .before .ready .ensures) ∙ not-false _ (c .before .before .if2 .left))))
+    omega (arith, c .before .before .before .before .before .before .before .before .before .before .before .drain .ok, drained-calls (c .before .before .before .before .before .before .before .before .before .before .before .drain .ensures), turned _ _ _ _ _ (c .before .before .before .before .before .feed .ensures) .calls (ready-is _ (sym (c .before .before .before .ready .ensures) ∙ not-false _ (c .before .before .if2 .left))))
 
 loop-again : tie.Need-loop-again Inv-loop μ-loop
 loop-again c = (
-  counters-on (c .before .before .before .before .before .before .before .before .before .before .before .drain .ensures .counted) (turned _ _ _ _ _ (c .before .before .before .before .before .read-some .ensures) .messages),
-  c .before .before .before .before .before .read-some .kept .1 .1 .0 ∙ c .before .before .before .before .before .before .before .before .before .before .before .before .before .before .before .loop .inv .1,
-  going-on (c .before .before .before .before .before .before .before .before .before .before .before .before .before .before .before .loop .inv .2) (c .before .before .before .before .before .before .before .before .before .before .before .drain .ensures) (wants-is _ (sym (c .before .before .before .before .before .before .before .before .wants .ensures) ∙ not-false _ (c .before .before .before .before .before .before .before .if1 .left))) _ _ (c .before .before .before .before .before .read-some .ensures)
+  counters-on (c .before .before .before .before .before .before .before .before .before .before .before .drain .ensures .counted) (turned _ _ _ _ _ (c .before .before .before .before .before .feed .ensures) .messages),
+  c .before .before .before .before .before .feed .kept .1 .1 .0 ∙ c .before .before .before .before .before .before .before .before .before .before .before .before .before .before .before .loop .inv .1,
+  going-on (c .before .before .before .before .before .before .before .before .before .before .before .before .before .before .before .loop .inv .2) (c .before .before .before .before .before .before .before .before .before .before .before .drain .ensures) (wants-is _ (sym (c .before .before .before .before .before .before .before .before .wants .ensures) ∙ not-false _ (c .before .before .before .before .before .before .before .if1 .left))) _ _ (c .before .before .before .before .before .feed .ensures)
       (ready-is _ (sym (c .before .before .before .ready .ensures) ∙ not-false _ (c .before .before .if2 .left))),
 )
 
@@ -91,8 +91,8 @@ run-spec =
     wants-requires
     same-length
     returns
-    slice-aggregate-read-some
-    read-some-requires
+    slice-aggregate-feed
+    feed-requires
     ready-requires
     same-length-2
     returns-2

@@ -1,9 +1,9 @@
--- `tallying::tell` meets its contract.
+-- `feeding::tell` meets its contract.
 -- Assumes nothing.
-use Rattle.tallying.proofs.Turns.{tells-failed, tells-bytes}
+use Rattle.feeding.proofs.Turns.{tells-failed, tells-bytes}
 use borrow.Author.Needs.{needs}
-use Rattle.tallying.proofs.tell.Statement.{statement}
-use Rattle.tallying.proofs.tell.Tie as tie
+use Rattle.feeding.proofs.tell.Statement.{statement}
+use Rattle.feeding.proofs.tell.Tie as tie
 
 failed-requires : tie.Need-failed-requires
 failed-requires c κs = search needs

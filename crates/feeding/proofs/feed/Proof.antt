@@ -1,15 +1,14 @@
--- `tallying::read_some` meets its contract.
+-- `feeding::feed` meets its contract.
 -- Assumes nothing.
 use Prim.Native.Nat.{_≤_}
 use mathlib.Core.Path.{refl, sym, _∙_}
 use native.Mathlib.Omega.{arith}
 use borrow.Author.Tests.{not-true, not-false}
 use lib.ListN.{length}
-use Rattle.tallying.proofs.Answers.{ready-is, ready-not}
-use Rattle.tallying.proofs.Turns.{roomy, no-read, one-read}
+use Rattle.feeding.proofs.Turns.{ready-is, ready-not, roomy, no-read, one-read}
 use borrow.Author.Needs.{needs}
-use Rattle.tallying.proofs.read_some.Statement.{statement}
-use Rattle.tallying.proofs.read_some.Tie as tie
+use Rattle.feeding.proofs.feed.Statement.{statement}
+use Rattle.feeding.proofs.feed.Tie as tie
 
 make-room-of-requires : tie.Need-make-room-of-requires
 make-room-of-requires c κs = search needs
@@ -55,8 +54,8 @@ returns-2 c =
     one-read (c .before .before .before .before .before .before .before .before .before .before .before .before .before .args .s) _ _ (m .result) (m .last .1 .0) _ _ (m .ensures .0) a (m .ensures .1) (omega (arith, h .whole, h .free, m .kept .1 .0)) (same-length-2 c) (m .kept .1 .0)
     (c .before .before .before .read .ensures) (c .tell .ensures)
 
-pub read-some-spec : {M : Type 1} → statement M
-read-some-spec =
+pub feed-spec : {M : Type 1} → statement M
+feed-spec =
     tie.close
     (tie.spec
     make-room-of-requires

@@ -12,14 +12,26 @@ use Rattle.standard.specs.declared.Brought.{Brought}
 use Rattle.standard.specs.Reads.{Reads}
 use Rattle.stream.specs.declared.Stream.{Stream}
 use Rattle.stream.specs.declared.Step.{Step}
-use Rattle.stream.specs.declared.Answer.the-variants.{Ready}
+use Rattle.stream.specs.declared.Answer.{Answer}
+use Rattle.stream.specs.declared.Answer.the-variants.{Message, Wants, Ready, Nothing, Refused}
 use Rattle.stream.specs.Room.{roomOf, roomBuffer}
 use Rattle.stream.specs.Told.{toldOf, failedOf}
 use Rattle.stream_laws.specs.Ends.{stops}
 use Rattle.stream_laws.proofs.Steps.{front, there, Room, no-room as no-room′, made, room-is}
 use Rattle.stream_laws.proofs.Calls.{stops-not, Roomy, room-ready, room-refused, told-heard, failed-stops}
-use Rattle.tallying.specs.declared.Turn.{Turn}
-use Rattle.tallying.specs.Reads.{tellOf, ReadSome}
+use Rattle.feeding.specs.declared.Turn.{Turn}
+use Rattle.feeding.specs.Turns.{isReady, tellOf, Fed}
+
+-- what the test of an answer tells
+pub ready-is : (a : Answer) → isReady a ≡ true → a ≡ Ready
+ready-is (Message m) e = absurd (let z : _≡_ {A = ℕ} 0 1 = cc in omega arith)
+ready-is Wants e = absurd (let z : _≡_ {A = ℕ} 0 1 = cc in omega arith)
+ready-is Ready e = refl
+ready-is Nothing e = absurd (let z : _≡_ {A = ℕ} 0 1 = cc in omega arith)
+ready-is (Refused n p) e = absurd (let z : _≡_ {A = ℕ} 0 1 = cc in omega arith)
+
+pub ready-not : (a : Answer) → isReady a ≡ false → a ≡ Ready → ⊥
+ready-not a e f = let g = ap isReady f in let z : _≡_ {A = ℕ} 0 1 = cc in omega arith
 
 -- what a turn leaves of the counts: the messages stay; where bytes came one more call is counted, and any other answer ends the run
 pub record Onward (s : Stream) (r : Step) : Type 0 where
@@ -84,7 +96,7 @@ tell-case {A} s b f g = at (b .failed) refl
     at true e = f e (rw e)
     at false e = g e (rw e)
 
-pub turned : (s : Stream) (v : Brought) (b : List ℕ) (x : Turn) (c : List ℕ) → ReadSome s v b x c → Onward s (x .step)
+pub turned : (s : Stream) (v : Brought) (b : List ℕ) (x : Turn) (c : List ℕ) → Fed s v b x c → Onward s (x .step)
 turned s v b x c R =
     ⊎-elim
     (λ a.
@@ -102,11 +114,11 @@ tells-failed s b f r e t h = rw (sym e ∙ t) h
 pub tells-bytes : (s : Stream) (b : Brought) (f : Bool) (n : ℕ) (r : Step) → f ≡ b .failed → f ≡ false → n ≡ b .bytes → r ≡ toldOf s n → r ≡ tellOf s b
 tells-bytes s b f n r e t k h = rw (sym e ∙ t) (h ∙ ap (toldOf s) k)
 
--- ---- what read_some does
+-- ---- what feed does
 
 -- no room was made
 pub no-read : (s : Stream) (v : Brought) (b : List ℕ) (r : Step) (x : Turn) (c : List ℕ) → r ≡ roomOf s (length b) → (r .answer ≡ Ready → ⊥)
-    → x .step ≡ r → x .brought ≡ v → length c ≡ length b → ReadSome s v b x c
+    → x .step ≡ r → x .brought ≡ v → length c ≡ length b → Fed s v b x c
 no-read s v b r x c e f i k l = record {
   long = l;
   no-room = λ _. (i ∙ e, k);
@@ -117,7 +129,7 @@ no-read s v b r x c e f i k l = record {
 pub one-read : (s : Stream) (v : Brought) (b : List ℕ) (r : Step) (m : List ℕ) (z : List ℕ) (x : Turn) → r ≡ roomOf s (length b)
     → r .answer ≡ Ready → m ≡ roomBuffer s b → r .state .end ≤ length m → length (take (r .state .end) m ++ z) ≡ length b → length m ≡ length b
     → Reads v (length (take (length m - r .state .end) (drop (r .state .end) m))) (x .brought) → x .step ≡ tellOf (r .state) (x .brought)
-    → ReadSome s v b x (take (r .state .end) m ++ z)
+    → Fed s v b x (take (r .state .end) m ++ z)
 one-read s v b r m z x e a h i l j f t =
     let y : roomOf s (length b) .state ≡ r .state = ap (λ (q : Step). q .state) (sym e) in
     let o : length (take (length m - r .state .end) (drop (r .state .end) m)) ≡ length m - r .state .end = simp (length-take, length-drop) (omega arith) in
