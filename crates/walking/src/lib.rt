@@ -1,36 +1,19 @@
 // One step of the walk over a piece of a recording, from a state to the next. What it comes to is `stepOf` (crates/walk/specs/Walk.antt).
+//
+// Arithmetic and tests stand in functions over numbers and states: a function that answers a frame's message is costly to check at each line.
 ghost use mathlib.Core.Path.{_≡_};
 ghost use mathlib.Core.Bool.{cond};
 ghost use Prim.Native.Nat.{_+_, _*_, _^_, _≤_, _<_};
-ghost use lib.ListN.{length, getD};
+ghost use lib.ListN.{length};
 ghost use lib.Dec.{eqb};
 ghost use Rattle.reader.specs.Window.{windowOf};
-ghost use Rattle.walk.specs.Walk.{frameSize, judgeOf, countOf, Ready, put, doneOf, refusedOf, movedOf, stepOf};
+ghost use Rattle.walk.specs.declared.Verdict.{Verdict};
+ghost use Rattle.walk.specs.Walk.{judgeOf, countOf, Ready, put, pastOf, doneOf, moreOf, refusedOf, stepOf};
+use plan::Plan;
 use walk::Answer;
 use walk::Stepped;
 use walk::Verdict;
 use walk::Walk;
-
-// The byte at a place of what `put_in` gives, found without putting.
-fn byte_at(held: [u8; 52], seen: usize, piece: &[u8], i: usize) -> u8
-    requires { ⌜ i < 52 ⌝ }
-    ensures { λ r. ⌜ r ≡ getD (put held seen (now (piece .entry))) i 0 ⌝ }
-{
-    if i < seen {
-        return held[i];
-    }
-    let k = i - seen;
-    if k < piece.len() { piece[k] } else { held[i] }
-}
-
-// The size of the current frame: its length bytes are held, or the piece brings them.
-fn size_at(held: [u8; 52], seen: usize, piece: &[u8]) -> usize
-    ensures { λ r. ⌜ r ≡ frameSize (put held seen (now (piece .entry))) ⌝ }
-{
-    let a = byte_at(held, seen, piece, 0);
-    let b = byte_at(held, seen, piece, 1);
-    walk::size_by(a, b)
-}
 
 fn count(v: Verdict) -> u64
     ensures { λ r. ⌜ r ≡ countOf v ⌝ }
@@ -41,27 +24,20 @@ fn count(v: Verdict) -> u64
     }
 }
 
-// The state past a frame that ends, and its answer.
-fn done(w: Walk, used: usize, size: usize, v: Verdict) -> Stepped
-    requires { ⌜ (w .offset + size < 2 ^ 64) × (2 * w .frames ≤ w .offset) × (w .accepted ≤ w .frames) ⌝ }
-    ensures { λ r. ⌜ r ≡ doneOf w used size v ⌝ }
+// The state past a frame of this size; n is what the frame adds to the accepted ones.
+fn past(w: Walk, size: usize, n: u64) -> Walk
+    requires { ⌜ w .offset + size < 2 ^ 64 ⌝ }
+    requires { ⌜ 2 * w .frames ≤ w .offset ⌝ }
+    requires { ⌜ w .accepted ≤ w .frames ⌝ }
+    requires { ⌜ n ≤ 1 ⌝ }
+    ensures { λ r. ⌜ ((v : Verdict) → n ≡ countOf v → r ≡ pastOf w size v) ⌝ }
 {
-    let offset = w.offset;
-    let accepted = w.accepted + count(v);
-    Stepped {
-        state: Walk {
-            offset: offset + size as u64,
-            seen: 0,
-            held: [0u8; 52],
-            frames: w.frames + 1,
-            accepted,
-        },
-        used,
-        answer: Answer::Frame {
-            offset,
-            size,
-            what: v,
-        },
+    Walk {
+        offset: w.offset + size as u64,
+        seen: 0,
+        held: [0u8; 52],
+        frames: w.frames + 1,
+        accepted: w.accepted + n,
     }
 }
 
@@ -86,38 +62,60 @@ fn one_of<'a>(a: &'a [u8], b: &'a [u8], first: bool) -> &'a [u8]
 
 // A frame that lies whole in the piece is judged there; one that was cut, by way of the held bytes. There is one call of `judge` for both, since a
 // function that is called from one place is compiled into its caller.
-fn judge_joined(held: [u8; 52], seen: usize, piece: &[u8], size: usize) -> Verdict
-    requires { ⌜ size ≤ seen + length (now piece) ⌝ }
-    ensures { λ r. ⌜ r ≡ judgeOf windowOf (put held seen (now (piece .entry))) size ⌝ }
+fn judge_joined(w: Walk, piece: &[u8], size: usize) -> Verdict
+    requires { ⌜ size ≤ w .seen + length (now piece) ⌝ }
+    ensures { λ r. ⌜ r ≡ judgeOf windowOf (put (w .held) (w .seen) (now (piece .entry))) size ⌝ }
 {
+    let held = w.held;
+    let seen = w.seen;
     let all = join(held, seen, piece);
     walk::judge(one_of(piece, &all, seen == 0), size)
 }
 
-// The step where neither 30 nor 33 is to be refused.
-fn advance(w: Walk, piece: &[u8]) -> Stepped
+// The state past a frame that ends, and its answer.
+fn done(w: Walk, piece: &[u8], used: usize, size: usize) -> Stepped
     requires { ⌜ Ready w (length (now piece)) ⌝ }
-    ensures { λ r. ⌜ r ≡ movedOf windowOf w (now (piece .entry)) ⌝ }
+    requires { ⌜ size ≤ w .seen + length (now piece) ⌝ }
+    ensures { λ r. ⌜ r ≡ doneOf w used size (judgeOf windowOf (put (w .held) (w .seen) (now (piece .entry))) size) ⌝ }
+{
+    let v = judge_joined(w, piece, size);
+    let state = past(w, size, count(v));
+    Stepped {
+        state,
+        used,
+        answer: Answer::Frame {
+            offset: w.offset,
+            size,
+            what: v,
+        },
+    }
+}
+
+// The state with the whole piece taken into the current frame.
+fn more(w: Walk, piece: &[u8]) -> Walk
+    requires { ⌜ Ready w (length (now piece)) ⌝ }
+    ensures { λ r. ⌜ r ≡ moreOf w (put (w .held) (w .seen) (now (piece .entry))) (length (now (piece .entry))) .state ⌝ }
 {
     let seen = w.seen;
     let held = w.held;
-    let size = size_at(held, seen, piece);
-    let n = piece.len();
-    let total = seen + n;
-    if size <= total {
-        let v = judge_joined(held, seen, piece, size);
-        return done(w, size - seen, size, v);
+    let held = walk::put_in(held, seen, piece);
+    Walk {
+        offset: w.offset,
+        seen: seen + piece.len(),
+        held,
+        frames: w.frames,
+        accepted: w.accepted,
     }
-    let more = walk::put_in(held, seen, piece);
+}
+
+fn wants_more(w: Walk, piece: &[u8]) -> Stepped
+    requires { ⌜ Ready w (length (now piece)) ⌝ }
+    ensures { λ r. ⌜ r ≡ moreOf w (put (w .held) (w .seen) (now (piece .entry))) (length (now (piece .entry))) ⌝ }
+{
+    let state = more(w, piece);
     Stepped {
-        state: Walk {
-            offset: w.offset,
-            seen: total,
-            held: more,
-            frames: w.frames,
-            accepted: w.accepted,
-        },
-        used: n,
+        state,
+        used: piece.len(),
         answer: Answer::WantsMore,
     }
 }
@@ -136,14 +134,10 @@ fn refused(w: Walk, number: u8) -> Stepped
 pub fn step(w: Walk, piece: &[u8]) -> Stepped
     ensures { λ r. ⌜ r ≡ stepOf windowOf w (now (piece .entry)) ⌝ }
 {
-    if !walk::sound(w) {
-        return refused(w, 30);
+    let p = plan::plan_step(w, piece);
+    match p {
+        Plan::Refuse(number) => return refused(w, number),
+        Plan::Take => return wants_more(w, piece),
+        Plan::End { used, size } => return done(w, piece, used, size),
     }
-    let offset = w.offset;
-    let seen = w.seen;
-    let n = piece.len();
-    if !walk::room(offset, seen, n) {
-        return refused(w, 33);
-    }
-    advance(w, piece)
 }

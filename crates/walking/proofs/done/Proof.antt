@@ -1,5 +1,6 @@
 -- `walking::done` meets its contract.
 -- Assumes nothing.
+use mathlib.Core.Path.{sym}
 use native.Mathlib.Omega.{arith}
 use Rattle.walk.specs.Walk.{doneOf}
 use Rattle.walk.proofs.Cases.{count-one}
@@ -7,21 +8,20 @@ use borrow.Author.Needs.{needs}
 use Rattle.walking.proofs.done.Statement.{statement}
 use Rattle.walking.proofs.done.Tie as tie
 
+judge-joined-requires : tie.Need-judge-joined-requires
+judge-joined-requires c κs = search needs
+
 count-requires : tie.Need-count-requires
 count-requires c κs = search needs
 
-add-accepted : tie.Need-add-accepted
-add-accepted c = omega (arith, c .before .count .ensures, count-one (c .before .before .args .v))
-
-add-t8 : tie.Need-add-t8
-add-t8 c = search needs
-
-add-t10 : tie.Need-add-t10
-add-t10 c = search needs
+past-requires : tie.Need-past-requires
+past-requires c κs =
+    let y = c .before .before .before .pre .0 in
+    (omega (arith, y .room, c .before .before .before .pre .1), (y .two, (y .counted, omega (arith, c .count .ensures, count-one (c .before .judge-joined .result)))))
 
 returns : tie.Need-returns
 unfolding doneOf
-returns c = rw (c .before .before .count .ensures)
+returns c = rw (c .past .ensures (c .before .before .judge-joined .result) (c .before .count .ensures), c .before .before .judge-joined .ensures)
 
 pub done-spec : {M : Type 1} → statement M
-done-spec = tie.close (tie.spec count-requires add-accepted add-t8 add-t10 returns)
+done-spec = tie.close (tie.spec judge-joined-requires count-requires past-requires returns)

@@ -1,11 +1,11 @@
--- `walking::byte_at` meets its contract.
+-- `plan::byte_at` meets its contract.
 -- Assumes nothing.
 use mathlib.Core.Path.{sym}
 use native.Mathlib.Omega.{arith}
 use Rattle.walk.proofs.Held.{put-low, put-there, put-behind}
 use borrow.Author.Needs.{needs}
-use Rattle.walking.proofs.byte_at.Statement.{statement}
-use Rattle.walking.proofs.byte_at.Tie as tie
+use Rattle.plan.proofs.byte_at.Statement.{statement}
+use Rattle.plan.proofs.byte_at.Tie as tie
 
 array-read-result : tie.Need-array-read-result
 array-read-result c = search needs
