@@ -1,6 +1,6 @@
 -- The cases of the writer's answer, over plain values; the laws of bodies that the writer cites.
 -- Assumes nothing.
-use mathlib.Core.Path.{_≡_, refl, sym, ap, _∙_, subst}
+use mathlib.Core.Path.{_≡_, refl, sym, ap, _∙_}
 use mathlib.Core.List.{List, [], _∷_, _++_}
 use mathlib.Core.Bool.{Bool, true, false, cond, _&&_}
 use native.Mathlib.Omega.{arith}
@@ -11,7 +11,7 @@ use borrow.Author.Tests.{eq-eqb, ne-eqb, lt-ltb, le-ltb, le-leb, lt-leb}
 use Rattle.format.specs.Utf8.{wellFormed}
 use Rattle.format.specs.Layout.{Kind, widths}
 use Rattle.format.specs.Rows.{sizeOf, header}
-use Rattle.pen.specs.Encode.{digits, kept, write, layout, putRow, PutBody}
+use Rattle.pen.specs.Encode.{digits, kept, write, layout, putRow}
 use Rattle.pen.proofs.Digits.{sets-append}
 use Rattle.pen.proofs.Puts.{length-write, row-fits}
 use Rattle.records.specs.declared.Mpid.{Mpid}
@@ -110,9 +110,6 @@ body-size b = body-rowed b .0
 
 pub body-count : (b : Body) → length (values b) ≡ 1 + count (layout (tagOf b))
 body-count b = body-rowed b .1
-
-pub body-is : (s : List ℕ) {b x : Body} {u : List ℕ} → b ≡ x → PutBody s (values x) u → PutBody s (values b) u
-body-is s {u = u} q e = subst (λ b. PutBody s (values b) u) (sym q) e
 
 -- the answers
 module _ (m : Message) (room : ℕ) where

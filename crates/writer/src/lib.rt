@@ -9,7 +9,7 @@ ghost use Rattle.format.specs.Ascii.{'I'};
 ghost use Rattle.format.specs.Rows.{header};
 ghost use Rattle.codes.specs.Names.{crossByte};
 ghost use lib.Dec.{eqb};
-ghost use Rattle.pen.specs.Encode.{PutRow, PutBody};
+ghost use Rattle.pen.specs.Encode.{PutRow};
 ghost use Rattle.records.specs.Values.{values};
 ghost use Rattle.writer.specs.Writing.{checkedOf, mpidTag, mpidFine, writtenOf, bufferAfter, FieldsFit};
 use codes::CrossType;
@@ -215,79 +215,6 @@ fn put_header(buf: &mut [u8], size: u8, tag: u8, locate: u16, tracking: u16, tim
     pen::set_u48(buf, 7, time);
 }
 
-fn put_body(buf: &mut [u8], b: Body)
-    ensures { λ r. ⌜ PutBody (now (buf .entry)) (values b) (now (buf .exit)) ⌝ }
-{
-    match b {
-        Body::AddOrder(x) => put_bodies::put_add_order(buf, x),
-        Body::Breach(x) => put_bodies::put_breach(buf, x),
-        Body::BrokenTrade { match_number } => put_bodies::put_broken_trade(buf, match_number),
-        Body::CrossTrade(x) => put_bodies::put_cross_trade(buf, x),
-        Body::DeleteOrder { reference } => put_bodies::put_delete_order(buf, reference),
-        Body::Imbalance(x) => put_bodies::put_imbalance_indicator(buf, x),
-        Body::IpoQuotingPeriod(x) => put_bodies::put_ipo_quoting_period(buf, x),
-        Body::LULDAuctionCollar {
-            stock,
-            ref_price,
-            upper_price,
-            lower_price,
-            extension,
-        } => put_bodies::put_luld_auction_collar(
-            buf,
-            stock,
-            ref_price,
-            upper_price,
-            lower_price,
-            extension,
-        ),
-        Body::MwcbDeclineLevel {
-            level1,
-            level2,
-            level3,
-        } => put_bodies::put_mwcb_decline_level(buf, level1, level2, level3),
-        Body::NonCrossTrade(x) => put_bodies::put_noncross_trade(buf, x),
-        Body::OrderCancelled {
-            reference,
-            cancelled,
-        } => put_bodies::put_order_cancelled(buf, reference, cancelled),
-        Body::OrderExecuted {
-            reference,
-            executed,
-            match_number,
-        } => put_bodies::put_order_executed(buf, reference, executed, match_number),
-        Body::OrderExecutedWithPrice {
-            reference,
-            executed,
-            match_number,
-            printable,
-            price,
-        } => put_bodies::put_order_executed_with_price(
-            buf,
-            reference,
-            executed,
-            match_number,
-            printable,
-            price,
-        ),
-        Body::ParticipantPosition(x) => put_bodies::put_participant_position(buf, x),
-        Body::RegShoRestriction { stock, action } => put_bodies::put_reg_sho_restriction(
-            buf,
-            stock,
-            action,
-        ),
-        Body::ReplaceOrder(x) => put_bodies::put_replace_order(buf, x),
-        Body::RetailPriceImprovementIndicator(x) =>
-            put_bodies::put_retail_price_improvement_indicator(buf, x),
-        Body::StockDirectory(x) => put_bodies::put_stock_directory(buf, x),
-        Body::SystemEvent { event } => put_bodies::put_system_event(buf, event),
-        Body::TradingAction {
-            stock,
-            trading_state,
-            reason,
-        } => put_bodies::put_trading_action(buf, stock, trading_state, reason),
-    }
-}
-
 // Puts the record at the front of the buffer and answers how many bytes it took, or refuses and leaves the buffer as it was.
 pub fn write(m: Message, buf: &mut [u8]) -> Written
     ensures { λ r. ⌜ r ≡ writtenOf m (length (now (buf .entry))) ⌝ }
@@ -318,6 +245,6 @@ pub fn write(m: Message, buf: &mut [u8]) -> Written
         return Written::Refused(44);
     }
     put_header(buf, size, tag, m.stock_locate, m.tracking_number, time);
-    put_body(buf, body);
+    put_any::put_body(buf, body);
     Written::Done(n)
 }

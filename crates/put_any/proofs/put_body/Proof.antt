@@ -1,9 +1,9 @@
--- `writer::put_body` meets its contract.
+-- `put_any::put_body` meets its contract.
 -- Assumes nothing.
-use Rattle.writer.proofs.Says.{body-is}
+use Rattle.put_any.proofs.Is.{body-is}
 use borrow.Author.Needs.{needs}
-use Rattle.writer.proofs.put_body.Statement.{statement}
-use Rattle.writer.proofs.put_body.Tie as tie
+use Rattle.put_any.proofs.put_body.Statement.{statement}
+use Rattle.put_any.proofs.put_body.Tie as tie
 
 enum-known-b : tie.Need-enum-known-b
 enum-known-b c = search needs
