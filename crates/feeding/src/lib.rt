@@ -25,9 +25,9 @@ fn tell(s: Stream, b: Brought) -> Step
     ensures { λ r. ⌜ r ≡ tellOf s b ⌝ }
 {
     if standard::failed(b) {
-        return stream::told_failed_of(s);
+        return refill::told_failed_of(s);
     }
-    stream::told_of(s, standard::bytes(b))
+    refill::told_of(s, standard::bytes(b))
 }
 
 // A turn: the state and the answer behind it, and what its read brought.
@@ -41,7 +41,7 @@ pub struct Turn {
 pub fn feed(s: Stream, b: Brought, buf: &mut [u8]) -> Turn
     ensures { λ r. ⌜ Fed s b (now (buf .entry)) r (now (buf .exit)) ⌝ }
 {
-    let room = stream::make_room_of(s, buf);
+    let room = refill::make_room_of(s, buf);
     if !ready(room) {
         return Turn {
             step: room,

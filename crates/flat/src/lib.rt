@@ -457,19 +457,19 @@ pub fn make_room(s: Stream, buf: &mut [u8]) -> Flat
     ensures { λ r. ⌜ r ≡ stepFlat (roomOf s (length (now (buf .entry)))) ⌝ }
     ensures { λ r. ⌜ now (buf .exit) ≡ roomBuffer s (now (buf .entry)) ⌝ }
 {
-    flatten(stream::make_room_of(s, buf))
+    flatten(refill::make_room_of(s, buf))
 }
 
 // The same of told.
 pub fn told(s: Stream, n: usize) -> Flat
     ensures { λ r. ⌜ r ≡ stepFlat (toldOf s n) ⌝ }
 {
-    flatten(stream::told_of(s, n))
+    flatten(refill::told_of(s, n))
 }
 
 // The same of told a failed read.
 pub fn told_failed(s: Stream) -> Flat
     ensures { λ r. ⌜ r ≡ stepFlat (failedOf s) ⌝ }
 {
-    flatten(stream::told_failed_of(s))
+    flatten(refill::told_failed_of(s))
 }

@@ -53,7 +53,7 @@ fn room_on(start: usize, end: usize, calls: u64, buf: &mut [u8]) -> Step
         messages: 0,
         error: false,
     };
-    stream::make_room_of(parts, buf)
+    refill::make_room_of(parts, buf)
 }
 
 // Make room: where it is ready, the buffer from end onward is the caller's to fill.
@@ -81,7 +81,7 @@ fn told_on(start: usize, end: usize, bytes: u64, error: bool, n: usize) -> Step
         messages: 0,
         error,
     };
-    stream::told_of(parts, n)
+    refill::told_of(parts, n)
 }
 
 // Told how many bytes the free part was filled with; none means that the input ended.
@@ -108,7 +108,7 @@ fn failed_on(start: usize, end: usize, error: bool) -> Step
         messages: 0,
         error,
     };
-    stream::told_failed_of(parts)
+    refill::told_failed_of(parts)
 }
 
 // Told that the read failed.

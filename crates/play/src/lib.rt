@@ -71,7 +71,7 @@ fn fetch(s: Stream, buf: &mut [u8], src: &[u8], at: usize, width: usize) -> Play
     ensures { λ r. ⌜ r ≡ fetchOf (now (src .entry)) width s (now (buf .entry)) at .played ⌝ }
     ensures { λ _. ⌜ now (buf .exit) ≡ fetchOf (now (src .entry)) width s (now (buf .entry)) at .buffer ⌝ }
 {
-    let step = stream::make_room_of(s, buf);
+    let step = refill::make_room_of(s, buf);
     let state = step.state;
     let answer = step.answer;
     let Answer::Ready = answer else {
@@ -79,7 +79,7 @@ fn fetch(s: Stream, buf: &mut [u8], src: &[u8], at: usize, width: usize) -> Play
     };
     let end = state.end;
     let n = fill(buf, end, src, at, width);
-    let told = stream::told_of(state, n);
+    let told = refill::told_of(state, n);
     let fed = told.state;
     let said = told.answer;
     let next = at + n;

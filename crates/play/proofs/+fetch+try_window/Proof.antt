@@ -19,9 +19,9 @@ use Rattle.play.proofs.try_window.Reads as try-window
 use Rattle.play.proofs.try_window.Kinds as try-window-kinds
 use Rattle.play.proofs.+fetch+try_window.Lts-try_window as try-window-lts
 use Rattle.play.proofs.fill.Reads as fill-reads
-use Rattle.stream.proofs.make_room_of.Reads as make-room-of-reads
+use Rattle.refill.proofs.make_room_of.Reads as make-room-of-reads
 use Rattle.stream.proofs.next_of.Reads as next-of-reads
-use Rattle.stream.proofs.told_of.Reads as told-of-reads
+use Rattle.refill.proofs.told_of.Reads as told-of-reads
 use Rattle.play.proofs.+fetch+try_window.{statement}
 use Rattle.play.proofs.+fetch+try_window.Tie.{close}
 

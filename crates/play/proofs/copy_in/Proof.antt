@@ -6,7 +6,7 @@ use mathlib.Core.List.{List}
 use native.Mathlib.Omega.{arith}
 use lib.ListN.{length, getD, drop, set, length-drop, length-set}
 use lib.Seq.{getD-drop}
-use Rattle.stream.proofs.Moves.{over, over-more}
+use Rattle.refill.proofs.Moves.{over, over-more}
 use Rattle.play.proofs.copy_in.Statement.{statement}
 use Rattle.play.proofs.copy_in.Tie as tie
 

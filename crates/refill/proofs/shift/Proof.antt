@@ -1,13 +1,13 @@
--- `stream::shift` meets its contract. The invariant: the first i bytes are those from start on, and the rest is as it was.
+-- `refill::shift` meets its contract. The invariant: the first i bytes are those from start on, and the rest is as it was.
 -- Assumes nothing.
 use Prim.Native.Nat.{_-_, _≤_}
 use mathlib.Core.Path.{_≡_, refl}
 use native.Mathlib.Omega.{arith}
 use lib.ListN.{length, drop, length-set}
-use Rattle.stream.proofs.Moves.{over, turn, ends}
+use Rattle.refill.proofs.Moves.{over, turn, ends}
 use borrow.Author.Needs.{needs}
-use Rattle.stream.proofs.shift.Statement.{statement}
-use Rattle.stream.proofs.shift.Tie as tie
+use Rattle.refill.proofs.shift.Statement.{statement}
+use Rattle.refill.proofs.shift.Tie as tie
 
 abbrev Inv-loop : tie.InvT-loop
 Inv-loop buf₀ start n i₀ buf i =

@@ -1,10 +1,10 @@
--- `stream::told_of` meets its contract.
+-- `refill::told_of` meets its contract.
 -- Assumes nothing.
 use borrow.Author.Tests.{lt-ltb, le-ltb, le-leb, lt-leb, eq-eqb, ne-eqb}
 use Rattle.stream.specs.Told.{toldOf}
 use borrow.Author.Needs.{needs}
-use Rattle.stream.proofs.told_of.Statement.{statement}
-use Rattle.stream.proofs.told_of.Tie as tie
+use Rattle.refill.proofs.told_of.Statement.{statement}
+use Rattle.refill.proofs.told_of.Tie as tie
 
 refused-requires : tie.Need-refused-requires
 refused-requires c κs = search needs

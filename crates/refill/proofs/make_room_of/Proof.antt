@@ -1,13 +1,13 @@
--- `stream::make_room_of` meets its contract. Each test that led to a return picks the case of `roomOf` and of `roomBuffer`.
+-- `refill::make_room_of` meets its contract. Each test that led to a return picks the case of `roomOf` and of `roomBuffer`.
 -- Assumes nothing.
 use mathlib.Core.Path.{sym, _∙_}
 use borrow.Author.Tests.{le-leb, lt-leb, eq-eqb, ne-eqb}
 use lib.ListN.{length}
 use Rattle.stream.specs.Room.{roomOf, roomBuffer}
 use Rattle.stream.proofs.Rooms.{Passes, at-end, before-end}
 use borrow.Author.Needs.{needs}
-use Rattle.stream.proofs.make_room_of.Statement.{statement}
-use Rattle.stream.proofs.make_room_of.Tie as tie
+use Rattle.refill.proofs.make_room_of.Statement.{statement}
+use Rattle.refill.proofs.make_room_of.Tie as tie
 
 refused-requires : tie.Need-refused-requires
 refused-requires c κs = search needs

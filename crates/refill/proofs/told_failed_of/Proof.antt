@@ -1,10 +1,10 @@
--- `stream::told_failed_of` meets its contract.
+-- `refill::told_failed_of` meets its contract.
 -- Assumes nothing.
 use borrow.Author.Tests.{le-leb, lt-leb}
 use Rattle.stream.specs.Told.{failedOf}
 use borrow.Author.Needs.{needs}
-use Rattle.stream.proofs.told_failed_of.Statement.{statement}
-use Rattle.stream.proofs.told_failed_of.Tie as tie
+use Rattle.refill.proofs.told_failed_of.Statement.{statement}
+use Rattle.refill.proofs.told_failed_of.Tie as tie
 
 refused-requires : tie.Need-refused-requires
 refused-requires c κs = search needs
