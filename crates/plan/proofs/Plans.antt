@@ -14,7 +14,7 @@ use Rattle.walk.specs.declared.Stepped.{Stepped}
 use Rattle.walk.specs.Walk.{frameSize, soundOf, countable, put, Ready, judgeOf, doneOf, moreOf, refusedOf, movedBy, movedOf, stepOf}
 use Rattle.plan.specs.declared.Plan.{Plan}
 use Rattle.plan.specs.declared.Plan.the-variants.{Refuse, Take, End}
-use Rattle.plan.specs.Plan.{planOf, Fits}
+use Rattle.plan.specs.Plan.{planOf, PlanHolds}
 
 module _ (w : Walk) (p : List ℕ) where
   pub plan-30 : soundOf w ≡ false → Refuse 30 ≡ planOf w p
@@ -59,10 +59,10 @@ module _ (win : List ℕ → Window) (w : Walk) (p : List ℕ) where
   pub by-known : {r x : Plan} → r ≡ planOf w p → r ≡ x → stepBy x ≡ stepOf win w p
   by-known e q = ap stepBy (sym q ∙ e) ∙ by-plan
 
-pub take-fits : (w : Walk) (n : ℕ) (r : Plan) → r ≡ Take → Fits r w n → Ready w n
-unfolding Fits
-take-fits w n r q f = subst (λ x. Fits x w n) q f
+pub take-fits : (w : Walk) (n : ℕ) (r : Plan) → r ≡ Take → PlanHolds r w n → Ready w n
+unfolding PlanHolds
+take-fits w n r q f = subst (λ x. PlanHolds x w n) q f
 
-pub end-fits : (w : Walk) (n used size : ℕ) (r : Plan) → r ≡ End used size → Fits r w n → Ready w n × (size ≤ w .seen + n)
-unfolding Fits
-end-fits w n used size r q f = subst (λ x. Fits x w n) q f
+pub end-fits : (w : Walk) (n used size : ℕ) (r : Plan) → r ≡ End used size → PlanHolds r w n → Ready w n × (size ≤ w .seen + n)
+unfolding PlanHolds
+end-fits w n used size r q f = subst (λ x. PlanHolds x w n) q f

@@ -20,7 +20,7 @@ planOf w piece =
     (cond (countable (w .offset) (w .seen) (length piece)) (planBy w (put (w .held) (w .seen) piece) (length piece)) (Refuse 33)) (Refuse 30)
 
 -- what is known of the state where a step over n bytes does not refuse; a frame that ends has all its bytes
-unfoldable pub Fits : Plan → Walk → ℕ → Type 0
-Fits (Refuse number) w n = Unit {0}
-Fits Take w n = Ready w n
-Fits (End used size) w n = Ready w n × (size ≤ w .seen + n)
+unfoldable pub PlanHolds : Plan → Walk → ℕ → Type 0
+PlanHolds (Refuse number) w n = Unit {0}
+PlanHolds Take w n = Ready w n
+PlanHolds (End used size) w n = Ready w n × (size ≤ w .seen + n)

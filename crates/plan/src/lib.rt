@@ -4,7 +4,7 @@ ghost use mathlib.Core.Path.{_≡_};
 ghost use Prim.Native.Nat.{_<_};
 ghost use lib.ListN.{length, getD};
 ghost use Rattle.walk.specs.Walk.{frameSize, put};
-ghost use Rattle.plan.specs.Plan.{planOf, Fits};
+ghost use Rattle.plan.specs.Plan.{planOf, PlanHolds};
 use walk::Walk;
 
 // Refuse, with the number; take the whole piece; end the frame, which has this size, after so many bytes of the piece.
@@ -38,7 +38,7 @@ fn size_at(held: [u8; 52], seen: usize, piece: &[u8]) -> usize
 // The plan of a step over the piece, and what is then known of the state. 30 comes before 33.
 pub fn plan_step(w: Walk, piece: &[u8]) -> Plan
     ensures { λ r. ⌜ r ≡ planOf w (now (piece .entry)) ⌝ }
-    ensures { λ r. ⌜ Fits r w (length (now (piece .entry))) ⌝ }
+    ensures { λ r. ⌜ PlanHolds r w (length (now (piece .entry))) ⌝ }
 {
     if !walk::sound(w) {
         return Plan::Refuse(30);

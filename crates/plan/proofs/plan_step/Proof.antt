@@ -6,7 +6,7 @@ use lib.ListN.{length}
 use borrow.Author.Tests.{not-true, not-false}
 use Rattle.walk.proofs.Held.{put-started}
 use Rattle.walk.proofs.Cases.{ready-of}
-use Rattle.plan.specs.Plan.{Fits}
+use Rattle.plan.specs.Plan.{PlanHolds}
 use Rattle.plan.proofs.Plans.{plan-30, plan-33, plan-take, plan-end}
 use borrow.Author.Needs.{needs}
 use Rattle.plan.proofs.plan_step.Statement.{statement}
@@ -16,14 +16,14 @@ sound-requires : tie.Need-sound-requires
 sound-requires c κs = search needs
 
 returns : tie.Need-returns
-unfolding Fits
+unfolding PlanHolds
 returns c = (plan-30 (c .before .before .before .args .w) (c .before .before .before .args .piece .now) (sym (c .before .sound .ensures) ∙ not-true _ (c .if1 .taken)), tt)
 
 room-requires : tie.Need-room-requires
 room-requires c κs = search needs
 
 returns-2 : tie.Need-returns-2
-unfolding Fits
+unfolding PlanHolds
 returns-2 c =
     let s = sym (c .before .before .before .sound .ensures) ∙ not-false _ (c .before .before .if1 .left) in
     (plan-33 (c .before .before .before .before .before .args .w) (c .before .before .before .before .before .args .piece .now) s (sym (c .before .room .ensures) ∙ not-true _ (c .if2 .taken)), tt)
@@ -45,7 +45,7 @@ sub-t11 c =
     omega (arith, c .before .size-at .ensures, put-started (a .w .held) (a .w .seen) (a .piece .now) (y .started))
 
 returns-3 : tie.Need-returns-3
-unfolding Fits
+unfolding PlanHolds
 returns-3 c =
     let a = c .before .before .before .before .before .before .before .before .args in
     let s = sym (c .before .before .before .before .before .before .sound .ensures) ∙ not-false _ (c .before .before .before .before .before .if1 .left) in
@@ -53,7 +53,7 @@ returns-3 c =
     (plan-end (a .w) (a .piece .now) s r (c .before .size-at .result) (c .before .size-at .ensures) (c .if3 .taken), (ready-of (a .w) (length (a .piece .now)) s r, c .if3 .taken))
 
 returns-4 : tie.Need-returns-4
-unfolding Fits
+unfolding PlanHolds
 returns-4 c =
     let a = c .before .before .before .before .before .before .before .before .args in
     let s = sym (c .before .before .before .before .before .before .sound .ensures) ∙ not-false _ (c .before .before .before .before .before .if1 .left) in
