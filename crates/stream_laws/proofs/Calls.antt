@@ -239,9 +239,6 @@ failed-stops s = failed-step s (failedOf s) (failed-is s)
 not-among : (ks : List ℕ) {a c : Answer} → T (not (hasKey ks (tagOf (declared enum) c))) → OneOf ks (tagOf (declared enum) a) → a ≡ c → ⊥
 not-among ks {c = c} t k e = miss ks (tagOf (declared enum) c) t (subst (λ (x : Answer). OneOf ks (tagOf (declared enum) x)) e k)
 
-pub not-message : {a : Answer} → OneOf (1 ∷ 2 ∷ 3 ∷ 4 ∷ []) (tagOf (declared enum) a) → (m : Record) → a ≡ Message m → ⊥
-not-message k m e = not-among (1 ∷ 2 ∷ 3 ∷ 4 ∷ []) tt k e
-
 pub not-wants : {a : Answer} → OneOf (0 ∷ 2 ∷ 3 ∷ 4 ∷ []) (tagOf (declared enum) a) → a ≡ Wants → ⊥
 not-wants k e = not-among (0 ∷ 2 ∷ 3 ∷ 4 ∷ []) tt k e
 
