@@ -1,16 +1,14 @@
 -- What a line tells of a frame: a plain message of the frame's size is accepted, with the tag that stands in it; and the answer behind what is told.
 -- Assumes nothing.
-use Prim.Native.Nat.{ℕ, _+_, _≤_, _<_, min}
-use mathlib.Core.Path.{_≡_, refl, sym, ap, _∙_}
+use Prim.Native.Nat.{ℕ, _≤_, min}
+use mathlib.Core.Path.{_≡_, refl, ap, _∙_}
 use mathlib.Core.Bool.{cond}
 use mathlib.Core.List.{List}
 use native.Mathlib.Omega.{arith}
 use borrow.Author.Tests.{le-ltb}
-use lib.Dec.{ltb}
 use lib.ListN.{take, getD}
 use Rattle.format.proofs.Bytes.{Bytes}
 use Rattle.records.specs.declared.Message.{Message}
-use Rattle.reader.specs.declared.Window.{Window}
 use Rattle.reader.specs.declared.Window.the-variants.{Message as Message'}
 use Rattle.reader.specs.Window.{windowOf}
 use Rattle.laws.proofs.Window.{sizes-50}

@@ -1,7 +1,7 @@
 -- Two answers that a contract allows are equal, and so are the states and the lent bytes that come with them. A contract has one of four forms: it equals a
 -- definition (`equals`); its meaning equals one (Unique of laws); it puts a text where there is room (`puts-once`); it walks a block (`walks-once`).
 -- Assumes nothing.
-use Prim.Native.Nat.{ℕ, _+_, _<_, _≤_}
+use Prim.Native.Nat.{ℕ, _+_}
 use mathlib.Core.Path.{_≡_, sym, _∙_}
 use mathlib.Core.Bool.{Bool}
 use mathlib.Core.List.{List}

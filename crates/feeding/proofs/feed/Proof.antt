@@ -1,10 +1,8 @@
 -- `feeding::feed` meets its contract.
 -- Assumes nothing.
-use Prim.Native.Nat.{_≤_}
 use mathlib.Core.Path.{refl, sym, _∙_}
 use native.Mathlib.Omega.{arith}
 use borrow.Author.Tests.{not-true, not-false}
-use lib.ListN.{length}
 use Rattle.feeding.proofs.Turns.{ready-is, ready-not, roomy, no-read, one-read}
 use borrow.Author.Needs.{needs}
 use Rattle.feeding.proofs.feed.Statement.{statement}

@@ -9,7 +9,7 @@ use lib.ListN.{length, length-take}
 use Rattle.walk.specs.declared.Walk.{Walk}
 use Rattle.lines.specs.Lines.{closingOf}
 use Rattle.text.proofs.Laws.{wrote-long, wrote-front}
-use Rattle.framing.specs.Told.{Finished, whole, failed}
+use Rattle.framing.specs.Told.{whole, failed}
 use Rattle.framing.proofs.Stops.{reached-sane}
 use Rattle.framing.proofs.Loop.{closes}
 use borrow.Author.Needs.{needs}

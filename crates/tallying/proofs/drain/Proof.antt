@@ -5,7 +5,7 @@ use mathlib.Core.Path.{sym, _∙_}
 use native.Mathlib.Omega.{arith}
 use borrow.Author.Tests.{not-true, not-false}
 use Rattle.tallying.specs.Counts.{Skimmed, none}
-use Rattle.tallying.proofs.Answers.{Raises, message-is, message-not}
+use Rattle.tallying.proofs.Answers.{message-is, message-not}
 use Rattle.tallying.proofs.Counting.{counter-below, rises, again, counts}
 use Rattle.tallying.proofs.Skimming.{onward, rising}
 use borrow.Author.Needs.{needs}

@@ -12,7 +12,7 @@ use Rattle.text.proofs.Laws.{wrote-long, wrote-front}
 use Rattle.tally_lines.specs.Lines.{tallyOf}
 use Rattle.feeding.specs.declared.Turn.{Turn}
 use Rattle.tallying.specs.Counts.{sum}
-use Rattle.tallying.specs.Reads.{Tallied, Printed, Finished}
+use Rattle.tallying.specs.Reads.{Tallied, Printed}
 use borrow.Author.Needs.{needs}
 use Rattle.tallying.proofs.print_tally.Statement.{statement}
 use Rattle.tallying.proofs.print_tally.Tie as tie

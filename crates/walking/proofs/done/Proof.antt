@@ -1,6 +1,5 @@
 -- `walking::done` meets its contract.
 -- Assumes nothing.
-use mathlib.Core.Path.{sym}
 use native.Mathlib.Omega.{arith}
 use Rattle.walk.specs.Walk.{doneOf}
 use Rattle.walk.proofs.Cases.{count-one}
