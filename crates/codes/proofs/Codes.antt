@@ -4,14 +4,13 @@ use mathlib.Core.Path.{_≡_, refl, sym, ap, _∙_}
 use mathlib.Core.Bool.{Bool, true, false, cond, _&&_, _||_, false≢true}
 use mathlib.Core.List.{List, [], _∷_}
 use Prim.Native.Nat.{ℕ, _+_}
-use native.Mathlib.Nat.{add-zero}
 use native.Mathlib.Omega.{arith}
 use lib.Dec.{T, eqb, leb, eqb→eq}
 use lib.ListN.{length}
 use borrow.Author.Tests.{eqb-true}
 use Rattle.format.specs.Ascii.{'Y', 'N', 'P', 'M', '␣'}
 use Rattle.format.specs.Codes.{side, yesNo, tradingState, direction, imbalanceCross, qualifier, makerMode, participantState, interest, cross, category, status, class, authenticity, flag, tier, etpFlag, event, level, action, subtypes}
-use Rattle.format.specs.Layout.{Kind, num, code, etp, subtype, be, part, member, asYes, got, short, refused, fine, wrong, judge, placed, field}
+use Rattle.format.specs.Layout.{Kind, num, code, etp, subtype, be, part, member, asYes, got, short, fine, wrong, judge, placed, field}
 use Rattle.format.specs.Meaning.{faultM}
 use Rattle.format.specs.declared.Fault.{Fault}
 use Rattle.format.specs.declared.Fault.the-variants.{Short, Refused}
@@ -32,8 +31,7 @@ use Rattle.codes.specs.declared.market.LevelBreached.{LevelBreached}
 use Rattle.codes.specs.declared.trade.InterestFlag.{InterestFlag}
 use Rattle.codes.specs.declared.stock.Flag.{Flag}
 use Rattle.codes.specs.Names.{eventByte, eventFrom, categoryByte, categoryFrom, statusByte, statusFrom, classByte, classFrom, tierByte, tierFrom, makerModeByte, makerModeFrom, participantStateByte, participantStateFrom, actionByte, actionFrom, tradingStateByte, tradingStateFrom, sideByte, sideFrom, directionByte, directionFrom, crossByte, crossFrom, qualifierByte, qualifierFrom, levelByte, levelFrom, interestByte, interestFrom, flagByte, flagFrom, yesNoByte, authenticityByte, subtypeOf}
-use Rattle.format.proofs.Tests.{both, is-true}
-use Rattle.codes.proofs.Match.{NoneOf, none-of}
+use Rattle.format.proofs.Tests.{both}
 
 -- every code of a set is the byte of its name
 abbrev backs : {A : Type 0} → (A → ℕ) → (ℕ → A) → List ℕ → Bool
@@ -189,12 +187,3 @@ subtype-short s at e q = go (leb (at + 2) (length s)) e q
     go true Short q′ = let z : _≡_ {A = ℕ} 0 1 = cc in absurd (omega arith)
     go true (Refused n p) q′ = let z : _≡_ {A = ℕ} 0 1 = cc in absurd (omega arith)
     go false e′ q′ = q′
-
--- the arms of the match on a subtype
-pub hit : {v k : ℕ} (at : ℕ) → v ≡ k → T (member k subtypes) → got (k ∷ []) ≡ subtypeOf v at
-unfolding subtypeOf
-hit {v} {k} at e t = sym (ap (λ n. subtypeOf n at) e ∙ ap (λ u. placed at (cond u (fine (k ∷ [])) (wrong 2 0))) (is-true (member k subtypes) t))
-
-pub miss : (v at : ℕ) → NoneOf (Unit {0}) subtypes v → refused 2 at ≡ subtypeOf v at
-unfolding subtypeOf
-miss v at h = sym (ap (λ u. placed at (cond u (fine (v ∷ [])) (wrong 2 0))) (none-of subtypes v h) ∙ ap (refused 2) (add-zero at))

@@ -1,3 +1,4 @@
 pub mod Match
 pub mod Codes
 pub mod Back
+pub mod Rows

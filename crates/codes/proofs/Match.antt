@@ -20,7 +20,7 @@ none-from (k ∷ ks) v A h =
     let r = none-from ks v (A × (v ≡ k → ⊥)) h in
     (r .0 .0, ap (λ t. t || member v ks) (ne-eqb v k (r .0 .1)) ∙ r .1)
 
-pub none-of : (ks : List ℕ) (v : ℕ) → NoneOf (Unit {0}) ks v → member v ks ≡ false
+none-of : (ks : List ℕ) (v : ℕ) → NoneOf (Unit {0}) ks v → member v ks ≡ false
 none-of ks v h = none-from ks v (Unit {0}) h .1
 
 unnamed : {A : Type 0} (byte : A → ℕ) (xs : List A) (last : A) (b : ℕ) → member b (map byte xs) ≡ false → last ≡ nameOf byte xs last b
