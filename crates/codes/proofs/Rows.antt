@@ -12,7 +12,7 @@ use denote.Enum.Declared.{tagOf}
 use Rattle.format.specs.Codes.{subtypes}
 use Rattle.format.specs.Layout.{got, refused, fine, wrong, placed}
 use Rattle.subtypes.specs.Rows.{indexIn}
-use Rattle.subtypes.proofs.Ascending.{codes-count, code-row, no-row}
+use Rattle.subtypes.proofs.Ascending.{codes-count, row-is-code, row-is-none}
 use Rattle.codes.specs.declared.subtype.IssueSubType.{IssueSubType}
 use Rattle.codes.specs.Names.{subtypeByte, subtypeNames, subtypeFrom, subtypeOf}
 use Rattle.codes.proofs.Back.{all-pass, subtype-back}
@@ -22,21 +22,21 @@ use Rattle.codes.proofs.subtype.IssueSubType.{the-type}
 pub hit : (v at : ℕ) {row : ℕ} (x : IssueSubType) → row ≡ indexIn v subtypes → row < 58 → subtypeByte x ≡ getD subtypes row 0 → got (subtypeByte x ∷ []) ≡ subtypeOf v at
 unfolding subtypeOf
 hit v at x e h q =
-    let c = code-row v e h in
+    let c = row-is-code v e h in
     ap (λ n. got (n ∷ [])) (q ∙ c .1) ∙ sym (ap (λ u. placed at (cond u (fine (v ∷ [])) (wrong 2 0))) (c .0))
 
 pub miss : (v at : ℕ) {row : ℕ} → row ≡ indexIn v subtypes → 58 ≤ row → refused 2 at ≡ subtypeOf v at
 unfolding subtypeOf
-miss v at e h = sym (ap (λ u. placed at (cond u (fine (v ∷ [])) (wrong 2 0))) (no-row v e h) ∙ ap (refused 2) (add-zero at))
+miss v at e h = sym (ap (λ u. placed at (cond u (fine (v ∷ [])) (wrong 2 0))) (row-is-none v e h) ∙ ap (refused 2) (add-zero at))
 
 -- a list of names whose codes are the rows
-by-row : {A : Type 0} (byte : A → ℕ) (xs : List A) (x : A) (row : ℕ) → row < length (map byte xs) → byte (getD xs row x) ≡ getD (map byte xs) row 0
-by-row byte [] x row h = absurd (not-suc-le-zero h)
-by-row byte (y ∷ xs) x zero h = refl
-by-row byte (y ∷ xs) x (suc row) h = by-row byte xs x row (le-of-suc-le-suc h)
+at-row : {A : Type 0} (byte : A → ℕ) (xs : List A) (x : A) (row : ℕ) → row < length (map byte xs) → byte (getD xs row x) ≡ getD (map byte xs) row 0
+at-row byte [] x row h = absurd (not-suc-le-zero h)
+at-row byte (y ∷ xs) x zero h = refl
+at-row byte (y ∷ xs) x (suc row) h = at-row byte xs x row (le-of-suc-le-suc h)
 
 pub name-row : (xs : List IssueSubType) (x : IssueSubType) {row : ℕ} → map subtypeByte xs ≡ subtypes → row < 58 → subtypeByte (getD xs row x) ≡ getD subtypes row 0
-name-row xs x {row} e h = by-row subtypeByte xs x row (rw (e, codes-count) h) ∙ ap (λ ks. getD ks row 0) e
+name-row xs x {row} e h = at-row subtypeByte xs x row (rw (e, codes-count) h) ∙ ap (λ ks. getD ks row 0) e
 
 -- the row of a name: it has the name's code, and is the name's place in the enum. Both are tests over all names
 pub row-code : (x : IssueSubType) → getD subtypes (indexIn (subtypeByte x) subtypes) 0 ≡ subtypeByte x

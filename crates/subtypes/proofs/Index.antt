@@ -14,23 +14,23 @@ use Rattle.format.specs.Layout.{member}
 use Rattle.subtypes.specs.Rows.{indexIn}
 
 -- a number is found where it stands, or it stands nowhere
-abbrev pub Held : ℕ → List ℕ → Type 0
-Held v ks = ((indexIn v ks < length ks) × (getD ks (indexIn v ks) 0 ≡ v)) ⊎ (indexIn v ks ≡ length ks)
+abbrev pub Stands : ℕ → List ℕ → Type 0
+Stands v ks = ((indexIn v ks < length ks) × (getD ks (indexIn v ks) 0 ≡ v)) ⊎ (indexIn v ks ≡ length ks)
 
-pub held : (v : ℕ) (ks : List ℕ) → Held v ks
-held v [] = inr refl
-held v (k ∷ ks) = go (eqb v k) refl (held v ks)
+pub stands : (v : ℕ) (ks : List ℕ) → Stands v ks
+stands v [] = inr refl
+stands v (k ∷ ks) = go (eqb v k) refl (stands v ks)
   where
-    go : (t : Bool) → eqb v k ≡ t → Held v ks
+    go : (t : Bool) → eqb v k ≡ t → Stands v ks
         → ((cond t 0 (suc (indexIn v ks)) < suc (length ks)) × (getD (k ∷ ks) (cond t 0 (suc (indexIn v ks))) 0 ≡ v)) ⊎ (cond t 0 (suc (indexIn v ks)) ≡ suc (length ks))
     go true e r = inl (omega arith, sym (eqb-true v k e))
     go false e (inl h) = inl (omega (arith, h .0), h .1)
     go false e (inr h) = inr (ap suc h)
 
 -- nothing before it is that number
-pub first-held : (v : ℕ) (ks : List ℕ) (i : ℕ) → i < length ks → getD ks i 0 ≡ v → indexIn v ks ≤ i
-first-held v [] i h e = omega arith
-first-held v (k ∷ ks) i h e = go (eqb v k) refl i h e (first-held v ks)
+pub stands-first : (v : ℕ) (ks : List ℕ) (i : ℕ) → i < length ks → getD ks i 0 ≡ v → indexIn v ks ≤ i
+stands-first v [] i h e = omega arith
+stands-first v (k ∷ ks) i h e = go (eqb v k) refl i h e (stands-first v ks)
   where
     go : (t : Bool) → eqb v k ≡ t → (i : ℕ) → i < suc (length ks) → getD (k ∷ ks) i 0 ≡ v
         → ((i : ℕ) → i < length ks → getD ks i 0 ≡ v → indexIn v ks ≤ i) → cond t 0 (suc (indexIn v ks)) ≤ i
@@ -39,9 +39,9 @@ first-held v (k ∷ ks) i h e = go (eqb v k) refl i h e (first-held v ks)
     go false q (suc i) h e rest = let r = rest i (le-of-suc-le-suc h) e in omega (arith, r)
 
 -- it is a member where it stands anywhere
-pub member-held : (v : ℕ) (ks : List ℕ) → member v ks ≡ ltb (indexIn v ks) (length ks)
-member-held v [] = refl
-member-held v (k ∷ ks) = go (eqb v k) (member-held v ks)
+pub stands-member : (v : ℕ) (ks : List ℕ) → member v ks ≡ ltb (indexIn v ks) (length ks)
+stands-member v [] = refl
+stands-member v (k ∷ ks) = go (eqb v k) (stands-member v ks)
   where
     go : (t : Bool) → member v ks ≡ ltb (indexIn v ks) (length ks) → (t || member v ks) ≡ ltb (cond t 0 (suc (indexIn v ks))) (suc (length ks))
     go true e = sym (lt-ltb 0 (suc (length ks)) (omega arith))
