@@ -16,6 +16,7 @@ use Rattle.format.proofs.Tests.{both, le-or-lt}
 use Rattle.subtypes.specs.Rows.{Listed, indexIn}
 use Rattle.subtypes.proofs.Index.{Stands, stands, stands-first, stands-member}
 
+-- the number of a row, and which one it is in the table
 pub row-number : (r : List ℕ) → length r ≡ 2 → getD r 0 0 * 256 + getD r 1 0 ≡ be r
 row-number [] e = omega (arith, e)
 row-number (a ∷ []) e = omega (arith, e)
