@@ -35,7 +35,7 @@ impl<'a> Fields<'a> {
     #[inline]
     fn text(&mut self, n: usize) -> Judged {
         let at = self.at;
-        std::str::from_utf8(self.take(n)?).map(|_| ()).map_err(|_| (3, at as u64))
+        std::str::from_utf8(self.take(n)?).map(|_| ()).map_err(|e| (3, (at + e.valid_up_to()) as u64))
     }
     fn subtype(&mut self) -> Judged {
         let at = self.at;

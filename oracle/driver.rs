@@ -61,8 +61,15 @@ impl Read for Drip<'_> {
     }
 }
 
+// Where the text's first bad sequence begins, counted from the field: the crate unwraps the error of its `from_utf8`, so its panic says `valid_up_to`.
+fn valid_up_to() -> usize {
+    let said = SAID.lock().unwrap();
+    let from = said.find("valid_up_to: ").unwrap() + 13;
+    said[from..].split(',').next().unwrap().parse().unwrap()
+}
+
 // Number and place for a message that the Rust did not take, from the bytes that begin with it. The Rust tells no place; but handed one byte at a time it
-// complains as soon as the bad field's last byte is there, so the place is the bytes read by then less the field's width. The tag is judged after byte 13.
+// complains as soon as the bad field's last byte is there, so the field begins at the bytes read by then less its width. The tag is judged after byte 13.
 fn refusal(bytes: &[u8], came: &Came) -> (u8, usize) {
     let mut stream = MessageStream::from_reader(Drip(bytes));
     let again = next(&mut stream);
@@ -72,8 +79,8 @@ fn refusal(bytes: &[u8], came: &Came) -> (u8, usize) {
     match again {
         Came::Panic("tag") => (1, end - 11),
         Came::Panic("text") => match (bytes[2], end) {
-            (b'F', 42) | (b'H', 27) | (b'L', 17) => (3, end - 4),
-            _ => (3, end - 8),
+            (b'F', 42) | (b'H', 27) | (b'L', 17) => (3, end - 4 + valid_up_to()),
+            _ => (3, end - 8 + valid_up_to()),
         },
         _ => (2, if (bytes[2], end) == (b'R', 31) { end - 2 } else { end - 1 }),
     }

@@ -119,7 +119,7 @@ etp-yes = record {
   «inverse_indicator» = false;
 }
 
--- the first 33 bytes of an A with this side and the byte ff in its stock: ff is the stock's first byte, at place 26, and its eighth is not there
+-- the first 33 bytes of an A with this side and ff as its stock's first byte, at place 26; the stock's eighth is not there
 abbrev a-with-ff : ℕ → List ℕ
 a-with-ff side = 0x00 ∷ 0x24 ∷ 0x41 ∷ head ++ n8 ++ (side ∷ []) ++ n4 ++ (0xff ∷ 0x41 ∷ 0x50 ∷ 0x4c ∷ 0x20 ∷ 0x20 ∷ 0x20 ∷ [])
 
@@ -175,10 +175,13 @@ rows =
     ∷ window 7 i-with-i (Refused 2 50)
     -- R with M at 35: yes.
     ∷ window 8 r-with-m (Accepted (with-head 0x52 (Body·.StockDirectory etp-yes)) 41)
-    -- A with byte ff in the stock, 34 bytes: 3 at 26; 33 bytes: incomplete; a bad side too: 2 at 21.
+    -- A with byte ff as the stock's first, 34 bytes: 3 at 26; 33 bytes: incomplete; a bad side too: 2 at 21.
     ∷ window 9 (a-with-ff 0x42 ++ (0x20 ∷ [])) (Refused 3 26)
     ∷ window 9 (a-with-ff 0x42) Incomplete
     ∷ window 9 (a-with-ff 0x58 ++ (0x20 ∷ [])) (Refused 2 21)
+    -- ff as the stock's third: 3 at 28; e2 82 28 from its second on: 3 at 27, where the sequence begins that 28 breaks.
+    ∷ window 9 (a-with-stock (0x43 ∷ 0x41 ∷ 0xff ∷ 0x20 ∷ 0x20 ∷ 0x20 ∷ 0x20 ∷ 0x20 ∷ [])) (Refused 3 28)
+    ∷ window 9 (a-with-stock (0x43 ∷ 0xe2 ∷ 0x82 ∷ 0x28 ∷ 0x20 ∷ 0x20 ∷ 0x20 ∷ 0x20 ∷ [])) (Refused 3 27)
     -- Frames 0000 and 00015a: 20.
     ∷ frame 10 (0x00 ∷ 0x00 ∷ []) (Bad 20 0)
     ∷ frame 10 (0x00 ∷ 0x01 ∷ 0x5a ∷ []) (Bad 20 0)
@@ -186,9 +189,9 @@ rows =
     -- Line one with length 000d and one byte 00 more: 21.
     ∷ frame 11 (0x00 ∷ 0x0d ∷ line-one ++ (0x00 ∷ [])) (Bad 21 0)
     ∷ walk 11 (0x00 ∷ 0x0d ∷ line-one ++ (0x00 ∷ [])) (walked (refused 0 15 21 0 ∷ []) 15 0)
-    -- Further runs: c3 a9 in a stock is legal, c3 as its eighth byte is 3.
+    -- Further runs: c3 a9 in a stock is legal, c3 as its eighth byte is 3, at 33: the stock's end cuts its sequence off.
     ∷ window 0 (a-with-stock (0x43 ∷ 0x41 ∷ 0x46 ∷ 0xc3 ∷ 0xa9 ∷ 0x20 ∷ 0x20 ∷ 0x20 ∷ [])) (Accepted (with-head 0x41 (Body·.AddOrder accented)) 38)
-    ∷ window 0 (a-with-stock (0x43 ∷ 0x41 ∷ 0x46 ∷ 0x20 ∷ 0x20 ∷ 0x20 ∷ 0x20 ∷ 0xc3 ∷ [])) (Refused 3 26)
+    ∷ window 0 (a-with-stock (0x43 ∷ 0x41 ∷ 0x46 ∷ 0x20 ∷ 0x20 ∷ 0x20 ∷ 0x20 ∷ 0xc3 ∷ [])) (Refused 3 33)
     -- The page's five lines, as `frames` prints them.
     ∷ walk 0 ((0x00 ∷ 0x0c ∷ line-one) ++ (0x00 ∷ 0x13 ∷ line-two) ++ (0x00 ∷ 0x0c ∷ line-three) ++ (0x00 ∷ 0x01 ∷ 0x5a ∷ 0x00 ∷ []))
     (walked (accepted 0 14 opens ∷ accepted 14 21 deletes ∷ refused 35 14 2 13 ∷ refused 49 3 20 0 ∷ []) 52 1)

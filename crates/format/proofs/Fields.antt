@@ -4,14 +4,13 @@ use mathlib.Core.Path.{_≡_, refl, ap, sym, _∙_}
 use mathlib.Core.List.{List, [], _∷_}
 use mathlib.Core.Bool.{Bool, true, false, cond}
 use Prim.Native.Nat.{ℕ, _+_, _<_, _≤_}
-use native.Mathlib.Nat.{add-zero}
 use native.Mathlib.Omega.{arith}
 use lib.Dec.{leb}
 use lib.ListN.{length, getD}
 use lib.Seq.{drop-cons}
 use borrow.Author.Tests.{le-leb, lt-leb, leb-true}
-use Rattle.format.specs.Utf8.{wellFormed}
-use Rattle.format.specs.Layout.{Kind, num, text, skip, width, be, part, got, short, refused, judge, placed, field}
+use Rattle.format.specs.Utf8.{wellFormed, firstBad}
+use Rattle.format.specs.Layout.{Kind, num, text, skip, width, be, part, Verdict, fine, wrong, got, short, refused, judge, placed, field}
 use Rattle.format.specs.Meaning.{faultM}
 use Rattle.format.specs.declared.Fault.{Fault}
 use Rattle.format.specs.declared.Fault.the-variants.{Short, Refused}
@@ -35,9 +34,26 @@ pub field-text : (w : ℕ) (s : List ℕ) (at : ℕ) {v : ℕ} → at + w ≤ le
 unfolding judge
 field-text w s at h e t = sym (field-judged (text w) s at h ∙ rw t (ap (λ n. got (n ∷ [])) (sym e)))
 
-pub field-no-text : (w : ℕ) (s : List ℕ) (at : ℕ) → at + w ≤ length s → wellFormed (part s at w) ≡ false → refused 3 at ≡ field (text w) s at
+pub field-no-text : (w : ℕ) (s : List ℕ) (at : ℕ) {p : ℕ} → at + w ≤ length s → wellFormed (part s at w) ≡ false → p ≡ at + firstBad (part s at w)
+    → refused 3 p ≡ field (text w) s at
 unfolding judge
-field-no-text w s at h t = sym (field-judged (text w) s at h ∙ rw t (ap (refused 3) (add-zero at)))
+field-no-text w s at h t e = sym (field-judged (text w) s at h ∙ rw t (ap (refused 3) (sym e)))
+
+-- a text's judgement, by cases; so one that has a value is well formed, and the value is its bytes
+pub text-cases : (P : Verdict → Type 0) (w : ℕ) (bs : List ℕ) → (wellFormed bs ≡ true → P (fine (be bs ∷ [])))
+    → (wellFormed bs ≡ false → P (wrong 3 (firstBad bs))) → P (judge (text w) bs)
+unfolding judge
+text-cases P w bs f g = go (wellFormed bs) refl
+  where
+    go : (b : Bool) → wellFormed bs ≡ b → P (cond b (fine (be bs ∷ [])) (wrong 3 (firstBad bs)))
+    go true e = f e
+    go false e = g e
+
+pub text-fine : (w : ℕ) (bs v : List ℕ) → judge (text w) bs ≡ fine v → (wellFormed bs ≡ true) × (be bs ∷ [] ≡ v)
+text-fine w bs v =
+    text-cases (λ x. x ≡ fine v → (wellFormed bs ≡ true) × (be bs ∷ [] ≡ v)) w bs
+    (λ t e. (t, cc))
+    (λ t e. let z : _≡_ {A = ℕ} 0 1 = cc in absurd (omega arith))
 
 -- a field of one byte: where there is no byte it is short, and else it is the judgement of that byte
 byte-there : (t : Bool) (b : List ℕ) (x : ℕ) → cond t (got b) short ≡ got (x ∷ []) → (t ≡ true) × (b ≡ x ∷ [])

@@ -1,10 +1,11 @@
--- UTF-8, byte by byte, and its short cut: bytes whose number has no high bit set are ASCII, which is well formed.
+-- UTF-8, byte by byte; the search for its first bad sequence; and its short cut: bytes whose number has no high bit set are ASCII, which is well formed.
 -- Assumes nothing.
 use mathlib.Core.Path.{_≡_, refl, ap, sym, _∙_}
 use mathlib.Core.List.{List, [], _∷_, _++_}
 use mathlib.Core.Bool.{Bool, true, false, cond, _&&_}
 use Prim.Native.Nat.{ℕ, zero, suc, _+_, _*_, _/_, _^_, _-_, _<_, _≤_}
 use native.Mathlib.Numerals.{add-one, sub-one}
+use native.Mathlib.Nat.{add-zero, add-assoc}
 use native.Mathlib.Omega.{arith}
 use lib.Bits.{bitAnd, and-block, and-shr}
 use lib.Dec.{T, leb, leb→le, lit<}
@@ -12,12 +13,12 @@ use lib.ListN.{length, getD, take, drop}
 use lib.Seq.{drop-cons}
 use borrow.Author.Tests.{lt-ltb, le-ltb, leb-true, leb-false}
 use Rattle.format.specs.Layout.{be, part}
-use Rattle.format.specs.Utf8.{Utf, fresh, tail, bad, Lead, row, grammar, leadIn, lead, due, utfStep, utfRun, isFresh, wellFormed}
+use Rattle.format.specs.Utf8.{Utf, fresh, tail, bad, Lead, row, grammar, leadIn, lead, due, utfStep, utfRun, isFresh, wellFormed, beginsAt, badFrom, firstBad}
 use Rattle.format.proofs.Tests.{both}
 use Rattle.format.proofs.Bytes.{Bytes, part-split, part-more, be-more}
 
 -- a run over two parts, one after the other
-utf-append : (u : Utf) (xs ys : List ℕ) → utfRun u (xs ++ ys) ≡ utfRun (utfRun u xs) ys
+pub utf-append : (u : Utf) (xs ys : List ℕ) → utfRun u (xs ++ ys) ≡ utfRun (utfRun u xs) ys
 unfolding utfRun
 utf-append u [] ys = refl
 utf-append u (x ∷ xs) ys = utf-append (utfStep u x) xs ys
@@ -68,6 +69,39 @@ tail-step {n = suc n} h lo hi b = rw sub-one
 pub due-tail : (n : ℕ) → (n ≡ 0 → ⊥) → due n ≡ tail n 0x80 0xbf
 due-tail zero h = absurd (h refl)
 due-tail (suc n) h = refl
+
+-- the search for the first bad sequence, with places counted from k bytes further in front
+begins-shift : (k : ℕ) (u : Utf) (from i : ℕ) → beginsAt u (k + from) (k + i) ≡ k + beginsAt u from i
+begins-shift k fresh from i = refl
+begins-shift k (tail n lo hi) from i = refl
+begins-shift k bad from i = refl
+
+bad-shift : (k : ℕ) (u : Utf) (from i : ℕ) (bs : List ℕ) → badFrom u (k + from) (k + i) bs ≡ k + badFrom u from i bs
+unfolding badFrom
+bad-shift k u from i [] = begins-shift k u from i
+bad-shift k u from i (b ∷ bs) = rw (begins-shift k u from i, add-assoc k i 1) (bad-shift k (utfStep u b) (beginsAt u from i) (i + 1) bs)
+
+-- over a text of w bytes, from the place i on: at first, one byte on, and behind the last
+pub bad-start : (s : List ℕ) (at w : ℕ) → badFrom fresh at at (part s at (at + w - at)) ≡ at + firstBad (part s at w)
+unfolding firstBad
+bad-start s at w =
+    let n : at + w - at ≡ w = omega arith in
+    let z : badFrom fresh (at + 0) (at + 0) (part s at w) ≡ at + badFrom fresh 0 0 (part s at w) = bad-shift at fresh 0 0 (part s at w) in
+    rw n (rw add-zero at z)
+
+pub bad-more : (u : Utf) (from i : ℕ) (s : List ℕ) (end : ℕ) → i < end → end ≤ length s
+    → badFrom u from i (part s i (end - i)) ≡ badFrom (utfStep u (getD s i 0)) (beginsAt u from i) (i + 1) (part s (i + 1) (end - (i + 1)))
+unfolding badFrom
+bad-more u from i s end l h =
+    let n : end - i ≡ suc (end - (i + 1)) = omega arith in
+    let k : i < length s = omega arith in
+    rw (n, drop-cons s i 0, ← add-one i)
+
+pub bad-end : (u : Utf) (from i : ℕ) (s : List ℕ) (end : ℕ) → end ≤ i → badFrom u from i (part s i (end - i)) ≡ beginsAt u from i
+unfolding badFrom
+bad-end u from i s end h =
+    let n : end - i ≡ 0 = omega arith in
+    rw n
 
 -- w bytes of which each has its high bit set and no other: the mask that the short cut tests
 abbrev pub highs : ℕ → ℕ

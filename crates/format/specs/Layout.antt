@@ -7,7 +7,7 @@ use lib.Dec.{leb, eqb}
 use lib.ListN.{length, take, drop}
 use Rattle.format.specs.Ascii.{'Y', 'M'}
 use Rattle.format.specs.Codes.{etpFlag, subtypes}
-use Rattle.format.specs.Utf8.{wellFormed}
+use Rattle.format.specs.Utf8.{wellFormed, firstBad}
 
 -- a field: a number of w bytes; the timestamp; a text of w bytes; a code of a set; the ETP flag; the issue subtype; any byte, not kept
 pub data Kind : Type 0 where
@@ -55,11 +55,11 @@ pub data Verdict : Type 0 where
 abbrev pub asYes : ℕ → ℕ
 asYes b = cond (eqb b 'M') 'Y' b
 
--- the judgement of each kind of field: an illegal code is 2, a text that is not UTF-8 is 3, each at the field's first byte
+-- the judgement of each kind of field: an illegal code is 2, at the field's first byte; a text that is not UTF-8 is 3, where its first bad sequence begins
 unfoldable pub judge : Kind → List ℕ → Verdict
 judge (num w) bs = fine (be bs ∷ [])
 judge time bs = fine (be bs ∷ [])
-judge (text w) bs = cond (wellFormed bs) (fine (be bs ∷ [])) (wrong 3 0)
+judge (text w) bs = cond (wellFormed bs) (fine (be bs ∷ [])) (wrong 3 (firstBad bs))
 judge (code set) bs = cond (member (be bs) set) (fine (be bs ∷ [])) (wrong 2 0)
 judge etp bs = cond (member (be bs) etpFlag) (fine (asYes (be bs) ∷ [])) (wrong 2 0)
 judge subtype bs = cond (member (be bs) subtypes) (fine (be bs ∷ [])) (wrong 2 0)

@@ -1,7 +1,7 @@
 -- Well-formed UTF-8, as RFC 3629, section 4, has it: a text is a run of whole sequences. The rows of its grammar stand in `grammar`, by the first
--- byte of a sequence; a sequence's second byte has a range of its own, and each byte after that is 80..BF.
+-- byte of a sequence; a sequence's second byte has a range of its own, and each byte after that is 80..BF. And where the first bad sequence begins.
 -- Assumes nothing.
-use Prim.Native.Nat.{ℕ, zero, suc}
+use Prim.Native.Nat.{ℕ, zero, suc, _+_}
 use mathlib.Core.List.{List, [], _∷_}
 use mathlib.Core.Bool.{Bool, true, false, cond}
 use lib.Dec.{ltb, leb}
@@ -67,3 +67,17 @@ isFresh bad = false
 
 unfoldable pub wellFormed : List ℕ → Bool
 wellFormed bs = isFresh (utfRun fresh bs)
+
+-- where the sequence begins that the next byte belongs to, of a text that stands at u with i bytes passed: there, if it stands between two sequences;
+-- else at `from`, where the one began that it stands in. A sequence that is not well formed is never left
+abbrev pub beginsAt : Utf → ℕ → ℕ → ℕ
+beginsAt u from i = cond (isFresh u) i from
+
+unfoldable pub badFrom : Utf → ℕ → ℕ → List ℕ → ℕ
+badFrom u from i [] = beginsAt u from i
+badFrom u from i (b ∷ bs) = badFrom (utfStep u b) (beginsAt u from i) (i + 1) bs
+
+-- where the first sequence begins that is not well formed, taking a text's sequences one after another: one that the text's end cuts off is not, and where
+-- all are, it is the text's end
+unfoldable pub firstBad : List ℕ → ℕ
+firstBad bs = badFrom fresh 0 0 bs

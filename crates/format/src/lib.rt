@@ -8,7 +8,7 @@ ghost use mathlib.Core.Bool.{cond};
 ghost use Prim.Native.Nat.{_+_, _^_, _<_, _≤_};
 ghost use lib.ListN.{length};
 ghost use Rattle.format.specs.Layout.{be, part, field, num, text};
-ghost use Rattle.format.specs.Utf8.{lead, utfStep, utfRun, isFresh, wellFormed};
+ghost use Rattle.format.specs.Utf8.{lead, utfStep, utfRun, isFresh, wellFormed, beginsAt, firstBad};
 ghost use Rattle.format.specs.Rows.{headerOf};
 ghost use Rattle.format.specs.Meaning.{num8M, num16M, num32M, num64M, fault8, fault16, fault32, fault64, utfM, headerM};
 
@@ -268,8 +268,39 @@ fn well_formed(s: &[u8], at: usize, eight: bool) -> bool
     is_fresh(u)
 }
 
-// The text of four bytes at a place, kept as the number that its bytes are; or short, or 3 where it is not UTF-8. Where no byte has its high bit
-// set, it is ASCII and nothing else is looked at.
+// The place where the sequence begins that the byte at place i belongs to, of a text that stands at u before it: i, or `from`, where the one began that it
+// stands in.
+fn begins_at(u: Utf, from: usize, i: usize) -> usize
+    ensures { λ r. ⌜ r ≡ beginsAt (utfM u) from i ⌝ }
+{
+    match u {
+        Utf::Fresh => i,
+        Utf::Tail(_, _, _) => from,
+        Utf::Bad => from,
+    }
+}
+
+// The place where the first bad sequence begins of the text of w bytes at a place; the one behind the text if there is none. Who refuses a text asks this, and
+// nobody else.
+fn first_bad(s: &[u8], at: usize, w: usize) -> usize
+    requires { ⌜ at + w ≤ length (now s) ⌝ }
+    ensures { λ r. ⌜ r ≡ at + firstBad (part (now (s .entry)) at w) ⌝ }
+{
+    let end = at + w;
+    let mut u = Utf::Fresh;
+    let mut from = at;
+    let mut i = at;
+    while i < end {
+        let next = i + 1;
+        from = begins_at(u, from, i);
+        u = utf_step(u, s[i]);
+        i = next;
+    }
+    begins_at(u, from, i)
+}
+
+// The text of four bytes at a place, kept as the number that its bytes are; or short, or 3, where its first bad sequence begins. Where no byte has its high
+// bit set, it is ASCII and nothing else is looked at.
 pub fn text4(s: &[u8], place: u8) -> Num32
     ensures { λ r. ⌜ num32M r ≡ field (text 4) (now (s .entry)) place ⌝ }
 {
@@ -284,7 +315,7 @@ pub fn text4(s: &[u8], place: u8) -> Num32
     if well_formed(s, at, false) {
         Num32::Got(v as u32)
     } else {
-        Num32::No(Fault::Refused(3, at))
+        Num32::No(Fault::Refused(3, first_bad(s, at, 4)))
     }
 }
 
@@ -303,7 +334,7 @@ pub fn text8(s: &[u8], place: u8) -> Num64
     if well_formed(s, at, true) {
         Num64::Got(v)
     } else {
-        Num64::No(Fault::Refused(3, at))
+        Num64::No(Fault::Refused(3, first_bad(s, at, 8)))
     }
 }
 

@@ -8,9 +8,9 @@ use native.Mathlib.Omega.{arith}
 use lib.Dec.{leb}
 use lib.ListN.{length, getD, drop}
 use Rattle.format.specs.Layout.{be, member, Kind, num, time, text, code, etp, subtype, skip, width, part, asYes, fine, wrong, placed, Got, got, short, refused, judge, field, Answer, accepted, incomplete, refuses, step, read}
-use Rattle.format.specs.Utf8.{wellFormed}
 use Rattle.format.specs.Codes.{etpFlag, subtypes}
 use Rattle.format.specs.Rows.{rows, Found, found, none, find, under, header, message, window}
+use Rattle.format.proofs.Fields.{text-cases}
 use Rattle.reader.specs.declared.Window.the-variants.{Refused}
 use Rattle.reader.specs.Window.{windowFrom, windowOf}
 
@@ -32,7 +32,7 @@ judge-low : (k : Kind) (bs : List ℕ) (at : ℕ) → Field (placed at (judge k 
 unfolding judge
 judge-low (num w) bs at = value
 judge-low time bs at = value
-judge-low (text w) bs at = judged (wellFormed bs) (be bs ∷ []) 3 at (omega arith, omega arith)
+judge-low (text w) bs at = text-cases (λ x. Field (placed at x)) w bs (λ _. value) (λ _. bad (omega arith, omega arith))
 judge-low (code set) bs at = judged (member (be bs) set) (be bs ∷ []) 2 at (omega arith, omega arith)
 judge-low etp bs at = judged (member (be bs) etpFlag) (asYes (be bs) ∷ []) 2 at (omega arith, omega arith)
 judge-low subtype bs at = judged (member (be bs) subtypes) (be bs ∷ []) 2 at (omega arith, omega arith)

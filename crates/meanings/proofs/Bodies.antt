@@ -11,8 +11,8 @@ use lib.ListN.{length}
 use Rattle.format.specs.Ascii.{'A', 'B', 'C', 'D', 'E', 'F', 'H', 'I', 'J', 'K', 'L', 'N', 'P', 'Q', 'R', 'S', 'U', 'V', 'W', 'X', 'Y'}
 use Rattle.format.specs.Codes.{etpFlag, subtypes}
 use Rattle.format.specs.Layout.{Kind, num, time, text, code, etp, subtype, skip, width, be, part, member, asYes, fine, wrong, placed, Got, got, short, refused, judge, field, accepted}
-use Rattle.format.specs.Utf8.{wellFormed}
 use Rattle.format.specs.Rows.{Row, rows, Found, found, none, find, fieldsIn, under, bodyOf}
+use Rattle.format.proofs.Fields.{text-cases}
 use Rattle.format.proofs.Runs.{Reads, end, _⨾_}
 use Rattle.laws.proofs.Rows.{all-read}
 use Rattle.records.specs.Values.{values, bodyFrom}
@@ -48,7 +48,7 @@ judged : (k : Kind) (bs : List ℕ) (at : ℕ) → Has k (placed at (judge k bs)
 unfolding judge
 judged (num w) bs at = value a-number
 judged time bs at = value a-time
-judged (text w) bs at = tested (text w) (wellFormed bs) (be bs ∷ []) 3 at (λ _. a-text)
+judged (text w) bs at = text-cases (λ x. Has (text w) (placed at x)) w bs (λ _. value a-text) (λ _. bad)
 judged (code set) bs at = tested (code set) (member (be bs) set) (be bs ∷ []) 2 at a-code
 judged etp bs at = tested etp (member (be bs) etpFlag) (asYes (be bs) ∷ []) 2 at (an-etp (be bs))
 judged subtype bs at = tested subtype (member (be bs) subtypes) (be bs ∷ []) 2 at a-subtype

@@ -15,7 +15,7 @@ use Rattle.format.specs.Codes.{etpFlag, subtypes}
 use Rattle.format.specs.Utf8.{wellFormed}
 use Rattle.format.specs.Layout.{Kind, num, time, text, code, etp, subtype, skip, width, widths, be, part, member, asYes, Verdict, fine, wrong, judge, got, placed, field}
 use Rattle.format.proofs.Bytes.{Bytes, be-snoc, part-split, part-more}
-use Rattle.format.proofs.Fields.{field-judged}
+use Rattle.format.proofs.Fields.{field-judged, text-fine}
 use Rattle.format.proofs.Runs.{Reads, end, _⨾_}
 use Rattle.format.proofs.Tests.{and-split}
 use Rattle.laws.proofs.Rows.{field-has}
@@ -173,7 +173,7 @@ unfolding judge digits
 took (num w) bs v vs d e = let q : be bs ∷ [] ≡ v = cc in subst (λ x. Took (num w) bs x vs) q (record { after = refl; bytes = d; texts = refl; codes = refl })
 took time bs v vs d e = let q : be bs ∷ [] ≡ v = cc in subst (λ x. Took time bs x vs) q (record { after = refl; bytes = d; texts = refl; codes = refl })
 took (text w) bs v vs d e =
-    let p = cond-fine (wellFormed bs) (be bs ∷ []) v 3 e in
+    let p = text-fine w bs v e in
     subst (λ x. Took (text w) bs x vs) (p .1) (record { after = refl; bytes = d; texts = ap wellFormed d ∙ p .0; codes = refl })
 took (code set) bs v vs d e =
     let p = cond-fine (member (be bs) set) (be bs ∷ []) v 2 e in

@@ -28,6 +28,9 @@ returns-2 c =
 well-formed-requires : tie.Need-well-formed-requires
 well-formed-requires c κs = search needs
 
+first-bad-requires : tie.Need-first-bad-requires
+first-bad-requires c κs = search needs
+
 cast-t13 : tie.Need-cast-t13
 cast-t13 c = search needs
 
@@ -35,7 +38,7 @@ returns-3 : tie.Need-returns-3
 returns-3 c = field-text 4 _ _ (c .before .before .before .before .if1 .left) (c .before .before .before .be4 .ensures .0) (sym (c .before .well-formed .ensures) ∙ c .if3 .taken)
 
 returns-4 : tie.Need-returns-4
-returns-4 c = field-no-text 4 _ _ (c .before .before .before .before .if1 .left) (sym (c .before .well-formed .ensures) ∙ c .if3 .left)
+returns-4 c = field-no-text 4 _ _ (c .before .before .before .before .before .if1 .left) (sym (c .before .before .well-formed .ensures) ∙ c .before .if3 .left) (c .first-bad .ensures)
 
 pub text4-spec : {M : Type 1} → statement M
 text4-spec =
@@ -48,5 +51,6 @@ text4-spec =
     returns-2
     well-formed-requires
     cast-t13
+    first-bad-requires
     returns-3
     returns-4)

@@ -25,13 +25,24 @@ returns-2 c =
 well-formed-requires : tie.Need-well-formed-requires
 well-formed-requires c κs = search needs
 
+first-bad-requires : tie.Need-first-bad-requires
+first-bad-requires c κs = search needs
+
 returns-3 : tie.Need-returns-3
 returns-3 c = field-text 8 _ _ (c .before .before .before .before .if1 .left) (c .before .before .before .be8 .ensures .0) (sym (c .before .well-formed .ensures) ∙ c .if3 .taken)
 
 returns-4 : tie.Need-returns-4
-returns-4 c = field-no-text 8 _ _ (c .before .before .before .before .if1 .left) (sym (c .before .well-formed .ensures) ∙ c .if3 .left)
+returns-4 c = field-no-text 8 _ _ (c .before .before .before .before .before .if1 .left) (sym (c .before .before .well-formed .ensures) ∙ c .before .if3 .left) (c .first-bad .ensures)
 
 pub text8-spec : {M : Type 1} → statement M
 text8-spec =
     tie.close
-    (tie.spec add-if1 returns be8-requires returns-2 well-formed-requires returns-3 returns-4)
+    (tie.spec
+    add-if1
+    returns
+    be8-requires
+    returns-2
+    well-formed-requires
+    first-bad-requires
+    returns-3
+    returns-4)
