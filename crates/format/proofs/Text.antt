@@ -15,16 +15,13 @@ use borrow.Author.Tests.{lt-ltb, le-ltb, leb-true, leb-false}
 use Rattle.format.specs.Layout.{be, part}
 use Rattle.format.specs.Utf8.{Utf, fresh, tail, bad, Lead, row, grammar, leadIn, lead, due, utfStep, utfRun, isFresh, wellFormed, beginsAt, badFrom, firstBad}
 use Rattle.format.proofs.Tests.{both}
-use Rattle.format.proofs.Bytes.{Bytes, part-split, part-more, be-more}
+use Rattle.format.proofs.Bytes.{Bytes, part-more, be-more}
 
 -- a run over two parts, one after the other
 pub utf-append : (u : Utf) (xs ys : List ℕ) → utfRun u (xs ++ ys) ≡ utfRun (utfRun u xs) ys
 unfolding utfRun
 utf-append u [] ys = refl
 utf-append u (x ∷ xs) ys = utf-append (utfStep u x) xs ys
-
-pub utf-split : (u : Utf) (s : List ℕ) (at i j : ℕ) → utfRun u (part s at (i + j)) ≡ utfRun (utfRun u (part s at i)) (part s (at + i) j)
-utf-split u s at i j = rw (part-split s at i j, utf-append)
 
 utf-more : (u : Utf) (s : List ℕ) (at w : ℕ) → at + w < length s
     → utfRun u (part s at (w + 1)) ≡ utfStep (utfRun u (part s at w)) (getD s (at + w) 0)
@@ -39,6 +36,14 @@ pub utf-four : (u : Utf) (s : List ℕ) (at : ℕ) → at + 4 ≤ length s
     → utfRun u (part s at 4)
     ≡ utfStep (utfStep (utfStep (utfStep u (getD s at 0)) (getD s (at + 1) 0)) (getD s (at + 2) 0)) (getD s (at + 3) 0)
 utf-four u s at h = rw (utf-more u s at 3 (omega arith), utf-more u s at 2 (omega arith), utf-more u s at 1 (omega arith), utf-one u s at (omega arith))
+
+pub utf-eight : (u : Utf) (s : List ℕ) (at : ℕ) → at + 8 ≤ length s
+    → utfRun u (part s at 8)
+    ≡ utfStep (utfStep (utfStep (utfStep (utfStep (utfStep (utfStep (utfStep u (getD s at 0)) (getD s (at + 1) 0)) (getD s (at + 2) 0)) (getD s (at + 3) 0))
+    (getD s (at + 4) 0)) (getD s (at + 5) 0)) (getD s (at + 6) 0)) (getD s (at + 7) 0)
+utf-eight u s at h =
+    rw (utf-more u s at 7 (omega arith), utf-more u s at 6 (omega arith), utf-more u s at 5 (omega arith), utf-more u s at 4 (omega arith))
+    (ap (λ v. utfStep (utfStep (utfStep (utfStep v (getD s (at + 4) 0)) (getD s (at + 5) 0)) (getD s (at + 6) 0)) (getD s (at + 7) 0)) (utf-four u s at (omega arith)))
 
 -- a first byte that is not below the bounds of the first k rows of the grammar, of which `lo` is the last
 abbrev bounded : List Lead → ℕ → Bool

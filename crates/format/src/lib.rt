@@ -5,10 +5,10 @@
 // (docs/DECISIONS.md); one law over the width serves them all (proofs/Bytes).
 ghost use mathlib.Core.Path.{_≡_};
 ghost use mathlib.Core.Bool.{cond};
-ghost use Prim.Native.Nat.{_+_, _^_, _<_, _≤_};
+ghost use Prim.Native.Nat.{_+_, _%_, _^_, _<_, _≤_};
 ghost use lib.ListN.{length};
 ghost use Rattle.format.specs.Layout.{be, part, field, num, text};
-ghost use Rattle.format.specs.Utf8.{lead, utfStep, utfRun, isFresh, wellFormed, beginsAt, firstBad};
+ghost use Rattle.format.specs.Utf8.{lead, utfStep, isFresh, wellFormed, beginsAt, firstBad};
 ghost use Rattle.format.specs.Rows.{headerOf};
 ghost use Rattle.format.specs.Meaning.{num8M, num16M, num32M, num64M, fault8, fault16, fault32, fault64, utfM, headerM};
 
@@ -234,17 +234,6 @@ fn utf_step(u: Utf, b: u8) -> Utf
     }
 }
 
-// Where it stands four bytes on.
-fn utf_four(u: Utf, s: &[u8], at: usize) -> Utf
-    requires { ⌜ at + 4 ≤ length (now s) ⌝ }
-    ensures { λ r. ⌜ utfM r ≡ utfRun (utfM u) (part (now (s .entry)) at 4) ⌝ }
-{
-    let u1 = utf_step(u, s[at]);
-    let u2 = utf_step(u1, s[at + 1]);
-    let u3 = utf_step(u2, s[at + 2]);
-    utf_step(u3, s[at + 3])
-}
-
 // Whether it may end there.
 fn is_fresh(u: Utf) -> bool
     ensures { λ r. ⌜ r ≡ isFresh (utfM u) ⌝ }
@@ -256,16 +245,23 @@ fn is_fresh(u: Utf) -> bool
     }
 }
 
-// The check proper, of four bytes or eight: one function for both texts, so that it stays out of their way.
+// The check proper, of four bytes or eight: one function for both texts, and a large one, so that it stays out of their way.
 fn well_formed(s: &[u8], at: usize, eight: bool) -> bool
     requires { ⌜ at + cond eight 8 4 ≤ length (now s) ⌝ }
     ensures { λ r. ⌜ r ≡ wellFormed (part (now (s .entry)) at (cond eight 8 4)) ⌝ }
 {
-    let mut u = utf_four(Utf::Fresh, s, at);
+    let after1 = utf_step(Utf::Fresh, s[at]);
+    let after2 = utf_step(after1, s[at + 1]);
+    let after3 = utf_step(after2, s[at + 2]);
+    let after4 = utf_step(after3, s[at + 3]);
     if eight {
-        u = utf_four(u, s, at + 4);
+        let after5 = utf_step(after4, s[at + 4]);
+        let after6 = utf_step(after5, s[at + 5]);
+        let after7 = utf_step(after6, s[at + 6]);
+        let after8 = utf_step(after7, s[at + 7]);
+        return is_fresh(after8);
     }
-    is_fresh(u)
+    is_fresh(after4)
 }
 
 // The place where the sequence begins that the byte at place i belongs to, of a text that stands at u before it: i, or `from`, where the one began that it
@@ -280,10 +276,10 @@ fn begins_at(u: Utf, from: usize, i: usize) -> usize
     }
 }
 
-// The place where the first bad sequence begins of the text of w bytes at a place; the one behind the text if there is none. Who refuses a text asks this, and
-// nobody else.
+// The place where the first bad sequence begins of the text of w bytes at a place; the one behind the text if there is none. Only who refuses a text asks
+// this. Two bytes a turn make it too large to be compiled into the texts, as the check is.
 fn first_bad(s: &[u8], at: usize, w: usize) -> usize
-    requires { ⌜ at + w ≤ length (now s) ⌝ }
+    requires { ⌜ (at + w ≤ length (now s)) × (w % 2 ≡ 0) ⌝ }
     ensures { λ r. ⌜ r ≡ at + firstBad (part (now (s .entry)) at w) ⌝ }
 {
     let end = at + w;
@@ -294,7 +290,9 @@ fn first_bad(s: &[u8], at: usize, w: usize) -> usize
         let next = i + 1;
         from = begins_at(u, from, i);
         u = utf_step(u, s[i]);
-        i = next;
+        from = begins_at(u, from, next);
+        u = utf_step(u, s[next]);
+        i = next + 1;
     }
     begins_at(u, from, i)
 }

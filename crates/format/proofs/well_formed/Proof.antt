@@ -3,15 +3,15 @@
 use denote.Ref.{now}
 use mathlib.Core.Path.{_≡_, sym, ap}
 use mathlib.Core.Bool.{Bool, true, false, cond}
-use mathlib.Core.Logic.{⊎-elim}
 use Prim.Native.Nat.{ℕ, _+_, _≤_}
 use native.Mathlib.Omega.{arith}
 use Rattle.format.specs.Utf8.{fresh, isFresh, wellFormed}
-use Rattle.format.proofs.Text.{utf-split}
+use Rattle.format.proofs.Text.{utf-four, utf-eight}
 use borrow.Author.Needs.{needs}
 use Rattle.format.proofs.well_formed.Statement.{statement}
 use Rattle.format.proofs.well_formed.Tie as tie
 
+-- four bytes are there, and eight where they are asked for
 four : (e : Bool) (at n : ℕ) → at + cond e 8 4 ≤ n → at + 4 ≤ n
 four true at n h = omega arith
 four false at n h = h
@@ -19,14 +19,74 @@ four false at n h = h
 eight : {e : Bool} (at n : ℕ) → e ≡ true → at + cond e 8 4 ≤ n → at + 8 ≤ n
 eight at n q h = rw q at h
 
-utf-four-requires : tie.Need-utf-four-requires
-utf-four-requires c κs = four (c .before .args .eight) _ _ (c .before .pre)
+shared-slice-read-utf-step : tie.Need-shared-slice-read-utf-step
+shared-slice-read-utf-step c = omega (arith, four (c .before .before .args .eight) (c .before .before .args .at) _ (c .before .before .pre))
 
-add-utf-four : tie.Need-add-utf-four
-add-utf-four c = search needs
+utf-step-requires : tie.Need-utf-step-requires
+utf-step-requires c κs = search needs
 
-utf-four-requires-2 : tie.Need-utf-four-requires-2
-utf-four-requires-2 c κs = omega (arith, eight _ _ (c .if1 .taken) (c .before .before .before .pre))
+add-utf-step : tie.Need-add-utf-step
+add-utf-step c = search needs
+
+shared-slice-read-utf-step-2 : tie.Need-shared-slice-read-utf-step-2
+shared-slice-read-utf-step-2 c = omega (arith, four (c .before .before .before .before .args .eight) (c .before .before .before .before .args .at) _ (c .before .before .before .before .pre))
+
+utf-step-requires-2 : tie.Need-utf-step-requires-2
+utf-step-requires-2 c κs = search needs
+
+add-utf-step-2 : tie.Need-add-utf-step-2
+add-utf-step-2 c = search needs
+
+shared-slice-read-utf-step-3 : tie.Need-shared-slice-read-utf-step-3
+shared-slice-read-utf-step-3 c = omega (arith, four (c .before .before .before .before .before .before .args .eight) (c .before .before .before .before .before .before .args .at) _ (c .before .before .before .before .before .before .pre))
+
+utf-step-requires-3 : tie.Need-utf-step-requires-3
+utf-step-requires-3 c κs = search needs
+
+add-utf-step-3 : tie.Need-add-utf-step-3
+add-utf-step-3 c = search needs
+
+shared-slice-read-utf-step-4 : tie.Need-shared-slice-read-utf-step-4
+shared-slice-read-utf-step-4 c = omega (arith, four (c .before .before .before .before .before .before .before .before .args .eight) (c .before .before .before .before .before .before .before .before .args .at) _ (c .before .before .before .before .before .before .before .before .pre))
+
+utf-step-requires-4 : tie.Need-utf-step-requires-4
+utf-step-requires-4 c κs = search needs
+
+add-utf-step-4 : tie.Need-add-utf-step-4
+add-utf-step-4 c = search needs
+
+shared-slice-read-utf-step-5 : tie.Need-shared-slice-read-utf-step-5
+shared-slice-read-utf-step-5 c = omega (arith, eight (c .before .before .before .before .before .before .before .before .before .before .before .args .at) _ (c .before .if1 .taken) (c .before .before .before .before .before .before .before .before .before .before .before .pre))
+
+utf-step-requires-5 : tie.Need-utf-step-requires-5
+utf-step-requires-5 c κs = search needs
+
+add-utf-step-5 : tie.Need-add-utf-step-5
+add-utf-step-5 c = search needs
+
+shared-slice-read-utf-step-6 : tie.Need-shared-slice-read-utf-step-6
+shared-slice-read-utf-step-6 c = omega (arith, eight (c .before .before .before .before .before .before .before .before .before .before .before .before .before .args .at) _ (c .before .before .before .if1 .taken) (c .before .before .before .before .before .before .before .before .before .before .before .before .before .pre))
+
+utf-step-requires-6 : tie.Need-utf-step-requires-6
+utf-step-requires-6 c κs = search needs
+
+add-utf-step-6 : tie.Need-add-utf-step-6
+add-utf-step-6 c = search needs
+
+shared-slice-read-utf-step-7 : tie.Need-shared-slice-read-utf-step-7
+shared-slice-read-utf-step-7 c = omega (arith, eight (c .before .before .before .before .before .before .before .before .before .before .before .before .before .before .before .args .at) _ (c .before .before .before .before .before .if1 .taken) (c .before .before .before .before .before .before .before .before .before .before .before .before .before .before .before .pre))
+
+utf-step-requires-7 : tie.Need-utf-step-requires-7
+utf-step-requires-7 c κs = search needs
+
+add-utf-step-7 : tie.Need-add-utf-step-7
+add-utf-step-7 c = search needs
+
+shared-slice-read-utf-step-8 : tie.Need-shared-slice-read-utf-step-8
+shared-slice-read-utf-step-8 c = omega (arith, eight (c .before .before .before .before .before .before .before .before .before .before .before .before .before .before .before .before .before .args .at) _ (c .before .before .before .before .before .before .before .if1 .taken) (c .before .before .before .before .before .before .before .before .before .before .before .before .before .before .before .before .before .pre))
+
+utf-step-requires-8 : tie.Need-utf-step-requires-8
+utf-step-requires-8 c κs = search needs
 
 is-fresh-requires : tie.Need-is-fresh-requires
 is-fresh-requires c κs = search needs
@@ -34,12 +94,48 @@ is-fresh-requires c κs = search needs
 returns : tie.Need-returns
 unfolding wellFormed
 returns c =
-    ⊎-elim
-    (λ w. rw (w .0 .taken, c .is-fresh .ensures, w .2, w .1 .ensures, c .before .before .utf-four .ensures) (ap isFresh (sym (utf-split fresh (now (c .before .before .before .before .args .s)) (c .before .before .before .before .args .at) 4 4))))
-    (λ w. rw (w .0 .left, c .is-fresh .ensures, w .1, c .before .before .utf-four .ensures))
-    (c .before .if1 .came)
+    let a = c .before .before .before .before .before .before .before .before .before .before .before .before .before .before .before .before .before .before .before .args in
+    rw (c .before .before .before .before .before .before .before .before .before .if1 .taken, c .is-fresh .ensures, c .before .utf-step8 .ensures, c .before .before .before .utf-step7 .ensures, c .before .before .before .before .before .utf-step6 .ensures, c .before .before .before .before .before .before .before .utf-step5 .ensures, c .before .before .before .before .before .before .before .before .before .before .utf-step4 .ensures, c .before .before .before .before .before .before .before .before .before .before .before .before .utf-step3 .ensures, c .before .before .before .before .before .before .before .before .before .before .before .before .before .before .utf-step2 .ensures, c .before .before .before .before .before .before .before .before .before .before .before .before .before .before .before .before .utf-step .ensures)
+    (ap isFresh (sym (utf-eight fresh (now (a .s)) (a .at) (eight (a .at) _ (c .before .before .before .before .before .before .before .before .before .if1 .taken) (c .before .before .before .before .before .before .before .before .before .before .before .before .before .before .before .before .before .before .before .pre)))))
+
+is-fresh-requires-2 : tie.Need-is-fresh-requires-2
+is-fresh-requires-2 c κs = search needs
+
+returns-2 : tie.Need-returns-2
+unfolding wellFormed
+returns-2 c =
+    let a = c .before .before .before .before .before .before .before .before .before .before .before .args in
+    rw (c .before .if1 .left, c .is-fresh2 .ensures, c .before .before .utf-step4 .ensures, c .before .before .before .before .utf-step3 .ensures, c .before .before .before .before .before .before .utf-step2 .ensures, c .before .before .before .before .before .before .before .before .utf-step .ensures)
+    (ap isFresh (sym (utf-four fresh (now (a .s)) (a .at) (four (a .eight) (a .at) _ (c .before .before .before .before .before .before .before .before .before .before .before .pre)))))
 
 pub well-formed-spec : {M : Type 1} → statement M
 well-formed-spec =
     tie.close
-    (tie.spec utf-four-requires add-utf-four utf-four-requires-2 is-fresh-requires returns)
+    (tie.spec
+    shared-slice-read-utf-step
+    utf-step-requires
+    add-utf-step
+    shared-slice-read-utf-step-2
+    utf-step-requires-2
+    add-utf-step-2
+    shared-slice-read-utf-step-3
+    utf-step-requires-3
+    add-utf-step-3
+    shared-slice-read-utf-step-4
+    utf-step-requires-4
+    add-utf-step-4
+    shared-slice-read-utf-step-5
+    utf-step-requires-5
+    add-utf-step-5
+    shared-slice-read-utf-step-6
+    utf-step-requires-6
+    add-utf-step-6
+    shared-slice-read-utf-step-7
+    utf-step-requires-7
+    add-utf-step-7
+    shared-slice-read-utf-step-8
+    utf-step-requires-8
+    is-fresh-requires
+    returns
+    is-fresh-requires-2
+    returns-2)
