@@ -247,7 +247,7 @@ fn is_fresh(u: Utf) -> bool
 
 // The check proper, of four bytes or eight: one function for both texts, and a large one, so that it stays out of their way.
 fn well_formed(s: &[u8], at: usize, eight: bool) -> bool
-    requires { ⌜ at + cond eight 8 4 ≤ length (now s) ⌝ }
+    requires { ⌜ at + 4 + cond eight 4 0 ≤ length (now s) ⌝ }
     ensures { λ r. ⌜ r ≡ wellFormed (part (now (s .entry)) at (cond eight 8 4)) ⌝ }
 {
     let after1 = utf_step(Utf::Fresh, s[at]);

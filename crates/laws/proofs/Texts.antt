@@ -10,7 +10,7 @@ use native.Mathlib.Numerals.{add-one}
 use native.Mathlib.Omega.{arith}
 use lib.ListN.{length, getD, take, drop, length-drop}
 use lib.Seq.{take-length, take-suc, drop-cons}
-use Rattle.format.specs.Utf8.{Utf, fresh, bad, utfStep, utfRun, isFresh, wellFormed, beginsAt, badFrom, firstBad}
+use Rattle.format.specs.Utf8.{Utf, fresh, bad, utfStep, utfRun, wellFormed, beginsAt, badFrom, firstBad}
 use Rattle.format.proofs.Tests.{le-or-lt}
 use Rattle.format.proofs.Text.{utf-append}
 

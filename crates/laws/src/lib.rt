@@ -1,1 +1,1 @@
-// The laws of the window: no code, but what the definition that parse_message meets says of every window. See proofs/.
+// The laws of the window and of its texts: no code, but what the definition that parse_message meets says of every window. See proofs/.

@@ -2,7 +2,7 @@
 -- Assumes nothing.
 use denote.Ref.{now}
 use mathlib.Core.Path.{_≡_, sym, ap}
-use mathlib.Core.Bool.{Bool, true, false, cond}
+use mathlib.Core.Bool.{Bool, true, cond}
 use Prim.Native.Nat.{ℕ, _+_, _≤_}
 use native.Mathlib.Omega.{arith}
 use Rattle.format.specs.Utf8.{fresh, isFresh, wellFormed}
@@ -11,16 +11,12 @@ use borrow.Author.Needs.{needs}
 use Rattle.format.proofs.well_formed.Statement.{statement}
 use Rattle.format.proofs.well_formed.Tie as tie
 
--- four bytes are there, and eight where they are asked for
-four : (e : Bool) (at n : ℕ) → at + cond e 8 4 ≤ n → at + 4 ≤ n
-four true at n h = omega arith
-four false at n h = h
-
-eight : {e : Bool} (at n : ℕ) → e ≡ true → at + cond e 8 4 ≤ n → at + 8 ≤ n
-eight at n q h = rw q at h
+-- eight bytes are there where they are asked for
+eight : {e : Bool} (at n : ℕ) → e ≡ true → at + 4 + cond e 4 0 ≤ n → at + 8 ≤ n
+eight at n q h = let k : at + 4 + 4 ≤ n = rw q at h in omega arith
 
 shared-slice-read-utf-step : tie.Need-shared-slice-read-utf-step
-shared-slice-read-utf-step c = omega (arith, four (c .before .before .args .eight) (c .before .before .args .at) _ (c .before .before .pre))
+shared-slice-read-utf-step c = search needs
 
 utf-step-requires : tie.Need-utf-step-requires
 utf-step-requires c κs = search needs
@@ -29,7 +25,7 @@ add-utf-step : tie.Need-add-utf-step
 add-utf-step c = search needs
 
 shared-slice-read-utf-step-2 : tie.Need-shared-slice-read-utf-step-2
-shared-slice-read-utf-step-2 c = omega (arith, four (c .before .before .before .before .args .eight) (c .before .before .before .before .args .at) _ (c .before .before .before .before .pre))
+shared-slice-read-utf-step-2 c = search needs
 
 utf-step-requires-2 : tie.Need-utf-step-requires-2
 utf-step-requires-2 c κs = search needs
@@ -38,7 +34,7 @@ add-utf-step-2 : tie.Need-add-utf-step-2
 add-utf-step-2 c = search needs
 
 shared-slice-read-utf-step-3 : tie.Need-shared-slice-read-utf-step-3
-shared-slice-read-utf-step-3 c = omega (arith, four (c .before .before .before .before .before .before .args .eight) (c .before .before .before .before .before .before .args .at) _ (c .before .before .before .before .before .before .pre))
+shared-slice-read-utf-step-3 c = search needs
 
 utf-step-requires-3 : tie.Need-utf-step-requires-3
 utf-step-requires-3 c κs = search needs
@@ -47,7 +43,7 @@ add-utf-step-3 : tie.Need-add-utf-step-3
 add-utf-step-3 c = search needs
 
 shared-slice-read-utf-step-4 : tie.Need-shared-slice-read-utf-step-4
-shared-slice-read-utf-step-4 c = omega (arith, four (c .before .before .before .before .before .before .before .before .args .eight) (c .before .before .before .before .before .before .before .before .args .at) _ (c .before .before .before .before .before .before .before .before .pre))
+shared-slice-read-utf-step-4 c = search needs
 
 utf-step-requires-4 : tie.Need-utf-step-requires-4
 utf-step-requires-4 c κs = search needs
@@ -106,7 +102,7 @@ unfolding wellFormed
 returns-2 c =
     let a = c .before .before .before .before .before .before .before .before .before .before .before .args in
     rw (c .before .if1 .left, c .is-fresh2 .ensures, c .before .before .utf-step4 .ensures, c .before .before .before .before .utf-step3 .ensures, c .before .before .before .before .before .before .utf-step2 .ensures, c .before .before .before .before .before .before .before .before .utf-step .ensures)
-    (ap isFresh (sym (utf-four fresh (now (a .s)) (a .at) (four (a .eight) (a .at) _ (c .before .before .before .before .before .before .before .before .before .before .before .pre)))))
+    (ap isFresh (sym (utf-four fresh (now (a .s)) (a .at) (omega arith))))
 
 pub well-formed-spec : {M : Type 1} → statement M
 well-formed-spec =
