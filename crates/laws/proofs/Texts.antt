@@ -1,5 +1,5 @@
 -- Where a text's first bad sequence begins, the place of refusal 3: it is the end of the longest front of the text that is well formed by itself, below the
--- text's end exactly where the text is not well formed; and the bytes behind a bad sequence change nothing of it.
+-- text's end exactly where the text is not well formed, so that the place lies within its field; and the bytes behind a bad sequence change nothing of it.
 -- Assumes nothing.
 use Prim.Native.Nat.{ℕ, suc, _+_, _<_, _≤_}
 use mathlib.Core.Path.{_≡_, refl, sym, ap, _∙_}
@@ -9,10 +9,12 @@ use mathlib.Core.Logic.{⊎-elim}
 use native.Mathlib.Numerals.{add-one}
 use native.Mathlib.Omega.{arith}
 use lib.ListN.{length, getD, take, drop, length-drop}
-use lib.Seq.{take-length, take-suc, drop-cons}
+use lib.Seq.{length-take-le, take-length, take-suc, drop-cons}
 use Rattle.format.specs.Utf8.{Utf, fresh, bad, utfStep, utfRun, wellFormed, beginsAt, badFrom, firstBad}
+use Rattle.format.specs.Layout.{text, part, placed, refused, field}
 use Rattle.format.proofs.Tests.{le-or-lt}
 use Rattle.format.proofs.Text.{utf-append}
+use Rattle.format.proofs.Fields.{field-short, field-judged, text-cases}
 
 -- q is the last place, of those up to i, before which a text is well formed by itself
 record Last (t : List ℕ) (q i : ℕ) : Type 0 where
@@ -81,6 +83,22 @@ not-formed t e =
     absurd (false≢true (sym e ∙ ap wellFormed (sym (take-length t)) ∙ ap (λ n. wellFormed (take n t)) (sym z) ∙ front-formed t)))
     (λ l. l)
     (le-or-lt (length t) (firstBad t))
+
+-- a text that is refused is refused with 3, that far into its field
+pub text-place : (w : ℕ) (s : List ℕ) (at n p : ℕ) → field (text w) s at ≡ refused n p
+    → (n ≡ 3) × (p ≡ at + firstBad (part s at w)) × (p < at + w)
+text-place w s at n p e =
+    let t : List ℕ = part s at w in
+    ⊎-elim
+    (λ (h : at + w ≤ length s).
+    let k : w ≤ length (drop at s) = simp length-drop (omega arith) in
+    let m : length t ≡ w = length-take-le w (drop at s) k in
+    text-cases (λ x. placed at x ≡ refused n p → (n ≡ 3) × (p ≡ at + firstBad t) × (p < at + w)) w t
+    (λ f q. let z : _≡_ {A = ℕ} 0 1 = cc in absurd (omega arith))
+    (λ f q. let r : p ≡ at + firstBad t = cc in (cc, r, omega (arith, not-formed t f)))
+    (sym (field-judged (text w) s at h) ∙ e))
+    (λ (h : length s < at + w). let z : _≡_ {A = ℕ} 0 1 = cc (field-short (text w) s at h) in absurd (omega arith))
+    (le-or-lt (at + w) (length s))
 
 -- a bad sequence is never left, so what stands behind it is not looked at
 never-left : (from i : ℕ) (ys : List ℕ) → badFrom bad from i ys ≡ from
