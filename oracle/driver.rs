@@ -1,8 +1,9 @@
-// The crate itchy 0.3.4, unchanged, asked what the port is asked; prints, byte for byte, what the port's programs print.
+// The crate itchy 0.3.4, unchanged, asked what the port is asked; prints, byte for byte, what the port's programs print, of what the Rust keeps.
 //   driver show WIDTH < recording    as `show`; the stream reads at most WIDTH bytes at a time
 //   driver cases < list              as `cases`
 //   driver frames < recording        as `frames`: each frame by itself to a stream of its own
 //   driver tally < recording         as `tally`
+//   driver as-rust < lines           of lines that the port's `show` or `cases` printed, what the Rust keeps: see `as_rust`
 // On standard error, at the end: `panic KIND TIMES` for each kind of panic that was caught.
 #[path = "line.rs"]
 mod line;
@@ -311,6 +312,25 @@ fn cases(mut list: &[u8], out: &mut Out) {
     }
 }
 
+// The one place where the port's lines are brought down to what the Rust keeps: it reads the ETP flag's M as yes, so that both are `Some(true)`, and drops H's
+// reserved byte. A tab stands between two fields and nowhere else.
+fn as_rust(lines: &[u8], out: &mut Out) {
+    for line in lines.split_inclusive(|&b| b == b'\n') {
+        for (i, field) in line.split(|&b| b == b'\t').enumerate() {
+            if field.starts_with(b"reserved=") {
+                continue;
+            }
+            if i > 0 {
+                out.text.push(b'\t');
+            }
+            out.text.extend_from_slice(if field == b"etp_flag=M" { b"etp_flag=Some(true)" } else { field });
+        }
+        if out.text.len() > 1 << 16 {
+            out.flush();
+        }
+    }
+}
+
 fn main() {
     let usual = take_hook();
     set_hook(Box::new(move |info| {
@@ -330,8 +350,9 @@ fn main() {
         ["cases"] => cases(&all, &mut out),
         ["frames"] => frames(&all, &mut out),
         ["tally"] => tally(&all, &mut out),
+        ["as-rust"] => as_rust(&all, &mut out),
         _ => {
-            eprintln!("usage: driver show WIDTH | cases | frames | tally");
+            eprintln!("usage: driver show WIDTH | cases | frames | tally | as-rust");
             std::process::exit(2)
         }
     }

@@ -1,4 +1,5 @@
-// One message of the crate as the line that the port's `show` prints. Read as a module by driver.rs and by the yardstick for `show`.
+// One message of the crate as the line that the port's `show` prints, of what the Rust keeps (`as_rust` in driver.rs). Read as a module by driver.rs and by the
+// yardstick for `show`.
 // Names of fields are the Rust's own (stringify!), names of codes come from the crate's Debug; no pattern has `..`: the compiler counts the fields.
 #[path = "digits.rs"]
 mod digits;

@@ -136,10 +136,12 @@ fn body_of(b: Body, what: u64, to: u64) -> Body {
         Body::TradingAction {
             stock,
             trading_state,
+            reserved,
             reason,
         } => Body::TradingAction {
             stock: text8_of(stock, what, to),
             trading_state,
+            reserved,
             reason: text4_of(reason, what, to),
         },
         _ => b,

@@ -39,9 +39,11 @@ use Rattle.codes.specs.declared.trade.InterestFlag.{InterestFlag}
 use Rattle.codes.specs.declared.trade.InterestFlag.the-variants as InterestFlag·
 use Rattle.codes.specs.declared.stock.Flag.{Flag}
 use Rattle.codes.specs.declared.stock.Flag.the-variants as Flag·
+use Rattle.codes.specs.declared.stock.EtpFlag.{EtpFlag}
+use Rattle.codes.specs.declared.stock.EtpFlag.the-variants as EtpFlag·
 use Rattle.codes.specs.declared.subtype.IssueSubType.{IssueSubType}
 use Rattle.codes.specs.declared.subtype.IssueSubType.the-variants as IssueSubType·
-use Rattle.codes.specs.Names.{nameOf, subtypeByte, subtypeFrom, eventByte, eventFrom, categoryByte, categoryFrom, statusByte, statusFrom, classByte, classFrom, tierByte, tierFrom, makerModeByte, makerModeFrom, participantStateByte, participantStateFrom, actionByte, actionFrom, tradingStateByte, tradingStateFrom, sideByte, sideFrom, directionByte, directionFrom, crossByte, crossFrom, qualifierByte, qualifierFrom, levelByte, levelFrom, interestByte, interestFrom, flagByte, flagFrom, yesNoByte, authenticityByte}
+use Rattle.codes.specs.Names.{nameOf, subtypeByte, subtypeFrom, eventByte, eventFrom, categoryByte, categoryFrom, statusByte, statusFrom, classByte, classFrom, tierByte, tierFrom, makerModeByte, makerModeFrom, participantStateByte, participantStateFrom, actionByte, actionFrom, tradingStateByte, tradingStateFrom, sideByte, sideFrom, directionByte, directionFrom, crossByte, crossFrom, qualifierByte, qualifierFrom, levelByte, levelFrom, interestByte, interestFrom, flagByte, flagFrom, etpFlagByte, etpFlagFrom, yesNoByte, authenticityByte}
 
 -- the bytes of these names pass a test
 abbrev pub pass : {A : Type 0} → (ℕ → Bool) → (A → ℕ) → List A → Bool
@@ -199,6 +201,13 @@ unfolding flagFrom
 flag-back Flag·.Yes = refl
 flag-back Flag·.No = refl
 flag-back Flag·.Absent = refl
+
+pub etpFlag-back : (x : EtpFlag) → etpFlagFrom (etpFlagByte x) ≡ x
+unfolding etpFlagFrom
+etpFlag-back EtpFlag·.Yes = refl
+etpFlag-back EtpFlag·.No = refl
+etpFlag-back EtpFlag·.M = refl
+etpFlag-back EtpFlag·.Absent = refl
 
 pub yesNo-back : (x : Bool) → eqb (yesNoByte x) 'Y' ≡ x
 yesNo-back true = refl

@@ -8,9 +8,9 @@ use native.Mathlib.Omega.{arith}
 use lib.Dec.{T, eqb, leb, eqb→eq}
 use lib.ListN.{length}
 use borrow.Author.Tests.{eqb-true}
-use Rattle.format.specs.Ascii.{'Y', 'N', 'P', 'M', '␣'}
+use Rattle.format.specs.Ascii.{'Y', 'P'}
 use Rattle.format.specs.Codes.{side, yesNo, tradingState, direction, imbalanceCross, qualifier, makerMode, participantState, interest, cross, category, status, class, authenticity, flag, tier, etpFlag, event, level, action, subtypes}
-use Rattle.format.specs.Layout.{Kind, num, code, etp, subtype, be, part, member, asYes, got, short, fine, wrong, judge, placed, field}
+use Rattle.format.specs.Layout.{Kind, num, code, subtype, be, part, member, got, short, fine, wrong, judge, placed, field}
 use Rattle.format.specs.Meaning.{faultM}
 use Rattle.format.specs.declared.Fault.{Fault}
 use Rattle.format.specs.declared.Fault.the-variants.{Short, Refused}
@@ -30,7 +30,8 @@ use Rattle.codes.specs.declared.market.IpoReleaseQualifier.{IpoReleaseQu
 use Rattle.codes.specs.declared.market.LevelBreached.{LevelBreached}
 use Rattle.codes.specs.declared.trade.InterestFlag.{InterestFlag}
 use Rattle.codes.specs.declared.stock.Flag.{Flag}
-use Rattle.codes.specs.Names.{eventByte, eventFrom, categoryByte, categoryFrom, statusByte, statusFrom, classByte, classFrom, tierByte, tierFrom, makerModeByte, makerModeFrom, participantStateByte, participantStateFrom, actionByte, actionFrom, tradingStateByte, tradingStateFrom, sideByte, sideFrom, directionByte, directionFrom, crossByte, crossFrom, qualifierByte, qualifierFrom, levelByte, levelFrom, interestByte, interestFrom, flagByte, flagFrom, yesNoByte, authenticityByte, subtypeOf}
+use Rattle.codes.specs.declared.stock.EtpFlag.{EtpFlag}
+use Rattle.codes.specs.Names.{eventByte, eventFrom, categoryByte, categoryFrom, statusByte, statusFrom, classByte, classFrom, tierByte, tierFrom, makerModeByte, makerModeFrom, participantStateByte, participantStateFrom, actionByte, actionFrom, tradingStateByte, tradingStateFrom, sideByte, sideFrom, directionByte, directionFrom, crossByte, crossFrom, qualifierByte, qualifierFrom, levelByte, levelFrom, interestByte, interestFrom, flagByte, flagFrom, etpFlagByte, etpFlagFrom, yesNoByte, authenticityByte, subtypeOf}
 use Rattle.format.proofs.Tests.{both}
 
 -- every code of a set is the byte of its name
@@ -47,29 +48,24 @@ back byte from (k ∷ ks) b t m = go (eqb b k) refl m (back byte from ks b (both
     go false e m′ rest = rest m′
 
 -- what was read of a field of one byte passed its test
-passed : (t u : Bool) (v : List ℕ) (at x : ℕ) → cond t (placed at (cond u (fine v) (wrong 2 0))) short ≡ got (x ∷ []) → (u ≡ true) × (v ≡ x ∷ [])
+passed : (t u : Bool) (v at x : ℕ) → cond t (placed at (cond u (fine v) (wrong 2 0))) short ≡ got x → (u ≡ true) × (v ≡ x)
 passed true true v at x e = (refl, cc)
 passed true false v at x e = let z : _≡_ {A = ℕ} 0 1 = cc in absurd (omega arith)
 passed false u v at x e = let z : _≡_ {A = ℕ} 0 1 = cc in absurd (omega arith)
 
-legal : (set s : List ℕ) (at : ℕ) {b : ℕ} → field (code set) s at ≡ got (b ∷ []) → member b set ≡ true
+legal : (set s : List ℕ) (at : ℕ) {b : ℕ} → field (code set) s at ≡ got b → member b set ≡ true
 unfolding field judge
 legal set s at {b} e =
     let n : ℕ = be (part s at 1) in
-    let h = passed (leb (at + 1) (length s)) (member n set) (n ∷ []) at b e in
-    let q : n ≡ b = cc (h .1) in
-    rw q at (h .0)
+    let h = passed (leb (at + 1) (length s)) (member n set) n at b e in
+    rw (h .1) at (h .0)
 
 -- a field that gave the byte b, whose name is r, gave the byte of r
 abbrev pub Named : {A : Type 0} → (A → ℕ) → (ℕ → A) → Kind → List ℕ → ℕ → ℕ → A → Type 0
-Named byte from k s at b r = field k s at ≡ got (b ∷ []) → r ≡ from b → field k s at ≡ got (byte r ∷ [])
-
-named-by : {A : Type 0} (byte : A → ℕ) (from : ℕ → A) (set : List ℕ) (k : Kind) (s : List ℕ) (at : ℕ) {b : ℕ} {r : A} → T (backs byte from set)
-    → (field k s at ≡ got (b ∷ []) → member b set ≡ true) → Named byte from k s at b r
-named-by byte from set k s at {b} t l e q = e ∙ ap (λ n. got (n ∷ [])) (sym (ap byte q ∙ back byte from set b t (l e)))
+Named byte from k s at b r = field k s at ≡ got b → r ≡ from b → field k s at ≡ got (byte r)
 
 named : {A : Type 0} (byte : A → ℕ) (from : ℕ → A) (set s : List ℕ) (at : ℕ) {b : ℕ} {r : A} → T (backs byte from set) → Named byte from (code set) s at b r
-named byte from set s at t = named-by byte from set (code set) s at t (legal set s at)
+named byte from set s at {b} t e q = e ∙ ap got (sym (ap byte q ∙ back byte from set b t (legal set s at e)))
 
 pub side-named : (s : List ℕ) (at : ℕ) {b : ℕ} {r : Side} → Named sideByte sideFrom (code side) s at b r
 unfolding side sideFrom
@@ -123,6 +119,10 @@ pub flag-named : (s : List ℕ) (at : ℕ) {b : ℕ} {r : Flag} → Named flagBy
 unfolding flag flagFrom
 flag-named s at = named flagByte flagFrom flag s at tt
 
+pub etpFlag-named : (s : List ℕ) (at : ℕ) {b : ℕ} {r : EtpFlag} → Named etpFlagByte etpFlagFrom (code etpFlag) s at b r
+unfolding etpFlag etpFlagFrom
+etpFlag-named s at = named etpFlagByte etpFlagFrom etpFlag s at tt
+
 pub tier-named : (s : List ℕ) (at : ℕ) {b : ℕ} {r : LuldRefPriceTier} → Named tierByte tierFrom (code tier) s at b r
 unfolding tier tierFrom
 tier-named s at = named tierByte tierFrom tier s at tt
@@ -147,34 +147,13 @@ pub authenticity-named : (s : List ℕ) (at : ℕ) {b : ℕ} {r : Bool} → Name
 unfolding authenticity
 authenticity-named s at = named authenticityByte (λ b. eqb b 'P') authenticity s at tt
 
--- the ETP flag: M read as yes, it is one of the flags
-etp-flag : (b : ℕ) → member b etpFlag ≡ true → member (asYes b) flag ≡ true
-unfolding etpFlag flag
-etp-flag b m = go (eqb b 'M') refl
-  where
-    go : (t : Bool) → eqb b 'M' ≡ t → member (cond t 'Y' b) ('Y' ∷ 'N' ∷ '␣' ∷ []) ≡ true
-    go true e = refl
-    go false e = rw e at m
-
-etp-legal : (s : List ℕ) (at : ℕ) {y : ℕ} → field etp s at ≡ got (y ∷ []) → member y flag ≡ true
-unfolding field judge
-etp-legal s at {y} e =
-    let n : ℕ = be (part s at 1) in
-    let h = passed (leb (at + 1) (length s)) (member n etpFlag) (asYes n ∷ []) at y e in
-    let q : asYes n ≡ y = cc (h .1) in
-    rw q at (etp-flag n (h .0))
-
-pub etp-named : (s : List ℕ) (at : ℕ) {y : ℕ} {r : Flag} → Named flagByte flagFrom etp s at y r
-unfolding flag flagFrom
-etp-named s at = named-by flagByte flagFrom flag etp s at tt (etp-legal s at)
-
 -- the subtype: a number of two bytes, judged
-pub subtype-got : (s : List ℕ) (at : ℕ) {v : ℕ} → field (num 2) s at ≡ got (v ∷ []) → field subtype s at ≡ subtypeOf v at
+pub subtype-got : (s : List ℕ) (at : ℕ) {v : ℕ} → field (num 2) s at ≡ got v → field subtype s at ≡ subtypeOf v at
 unfolding field judge subtypeOf
 subtype-got s at {v} e = go (leb (at + 2) (length s)) e
   where
-    go : (t : Bool) → cond t (got (be (part s at 2) ∷ [])) short ≡ got (v ∷ [])
-        → cond t (placed at (cond (member (be (part s at 2)) subtypes) (fine (be (part s at 2) ∷ [])) (wrong 2 0))) short ≡ subtypeOf v at
+    go : (t : Bool) → cond t (got (be (part s at 2))) short ≡ got v
+        → cond t (placed at (cond (member (be (part s at 2)) subtypes) (fine (be (part s at 2))) (wrong 2 0))) short ≡ subtypeOf v at
     go true q = let p : be (part s at 2) ≡ v = cc in rw p
     go false q = let z : _≡_ {A = ℕ} 0 1 = cc in absurd (omega arith)
 
@@ -182,8 +161,8 @@ pub subtype-short : (s : List ℕ) (at : ℕ) (e : Fault) → field (num 2) s at
 unfolding field judge
 subtype-short s at e q = go (leb (at + 2) (length s)) e q
   where
-    go : (t : Bool) (e : Fault) → cond t (got (be (part s at 2) ∷ [])) short ≡ faultM e
-        → cond t (placed at (cond (member (be (part s at 2)) subtypes) (fine (be (part s at 2) ∷ [])) (wrong 2 0))) short ≡ faultM e
+    go : (t : Bool) (e : Fault) → cond t (got (be (part s at 2))) short ≡ faultM e
+        → cond t (placed at (cond (member (be (part s at 2)) subtypes) (fine (be (part s at 2))) (wrong 2 0))) short ≡ faultM e
     go true Short q′ = let z : _≡_ {A = ℕ} 0 1 = cc in absurd (omega arith)
     go true (Refused n p) q′ = let z : _≡_ {A = ℕ} 0 1 = cc in absurd (omega arith)
     go false e′ q′ = q′

@@ -19,15 +19,15 @@ use Rattle.codes.proofs.Back.{all-pass, subtype-back}
 use Rattle.codes.proofs.subtype.IssueSubType.{the-type}
 
 -- two bytes that have a row, and a name of that row; two bytes that have none
-pub hit : (v at : ℕ) {row : ℕ} (x : IssueSubType) → row ≡ indexIn v subtypes → row < 58 → subtypeByte x ≡ getD subtypes row 0 → got (subtypeByte x ∷ []) ≡ subtypeOf v at
+pub hit : (v at : ℕ) {row : ℕ} (x : IssueSubType) → row ≡ indexIn v subtypes → row < 58 → subtypeByte x ≡ getD subtypes row 0 → got (subtypeByte x) ≡ subtypeOf v at
 unfolding subtypeOf
 hit v at x e h q =
     let c = row-is-code v e h in
-    ap (λ n. got (n ∷ [])) (q ∙ c .1) ∙ sym (ap (λ u. placed at (cond u (fine (v ∷ [])) (wrong 2 0))) (c .0))
+    ap got (q ∙ c .1) ∙ sym (ap (λ u. placed at (cond u (fine v) (wrong 2 0))) (c .0))
 
 pub miss : (v at : ℕ) {row : ℕ} → row ≡ indexIn v subtypes → 58 ≤ row → refused 2 at ≡ subtypeOf v at
 unfolding subtypeOf
-miss v at e h = sym (ap (λ u. placed at (cond u (fine (v ∷ [])) (wrong 2 0))) (row-is-none v e h) ∙ ap (refused 2) (add-zero at))
+miss v at e h = sym (ap (λ u. placed at (cond u (fine v) (wrong 2 0))) (row-is-none v e h) ∙ ap (refused 2) (add-zero at))
 
 -- a list of names whose codes are the rows
 at-row : {A : Type 0} (byte : A → ℕ) (xs : List A) (x : A) (row : ℕ) → row < length (map byte xs) → byte (getD xs row x) ≡ getD (map byte xs) row 0

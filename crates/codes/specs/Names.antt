@@ -42,6 +42,8 @@ use Rattle.codes.specs.declared.trade.InterestFlag.{InterestFlag}
 use Rattle.codes.specs.declared.trade.InterestFlag.the-variants as InterestFlag·
 use Rattle.codes.specs.declared.stock.Flag.{Flag}
 use Rattle.codes.specs.declared.stock.Flag.the-variants as Flag·
+use Rattle.codes.specs.declared.stock.EtpFlag.{EtpFlag}
+use Rattle.codes.specs.declared.stock.EtpFlag.the-variants as EtpFlag·
 use Rattle.codes.specs.declared.subtype.IssueSubType.{IssueSubType}
 use Rattle.codes.specs.declared.subtype.IssueSubType.the-variants as IssueSubType·
 use Rattle.codes.specs.declared.subtype.SubtypeRead.{SubtypeRead}
@@ -278,6 +280,18 @@ flagNames = Flag·.Yes ∷ Flag·.No ∷ []
 unfoldable pub flagFrom : ℕ → Flag
 flagFrom b = nameOf flagByte flagNames Flag·.Absent b
 
+abbrev pub etpFlagByte : EtpFlag → ℕ
+etpFlagByte EtpFlag·.Yes = 'Y'
+etpFlagByte EtpFlag·.No = 'N'
+etpFlagByte EtpFlag·.M = 'M'
+etpFlagByte EtpFlag·.Absent = '␣'
+
+abbrev pub etpFlagNames : List EtpFlag
+etpFlagNames = EtpFlag·.Yes ∷ EtpFlag·.No ∷ EtpFlag·.M ∷ []
+
+unfoldable pub etpFlagFrom : ℕ → EtpFlag
+etpFlagFrom b = nameOf etpFlagByte etpFlagNames EtpFlag·.Absent b
+
 abbrev pub yesNoByte : Bool → ℕ
 yesNoByte true = 'Y'
 yesNoByte false = 'N'
@@ -371,7 +385,7 @@ subtypeFrom v = nameOf subtypeByte subtypeNames IssueSubType·.NotApplicable v
 
 -- what a subtype's answer means
 abbrev pub subtypeM : SubtypeRead → Got
-subtypeM (GotSubtype t) = got (subtypeByte t ∷ [])
+subtypeM (GotSubtype t) = got (subtypeByte t)
 subtypeM (NoSubtype e) = faultM e
 
 abbrev pub subtypeFault : SubtypeRead → Fault
@@ -380,4 +394,4 @@ subtypeFault (NoSubtype e) = e
 
 -- two bytes, judged as a subtype
 unfoldable pub subtypeOf : ℕ → ℕ → Got
-subtypeOf v at = placed at (cond (member v subtypes) (fine (v ∷ [])) (wrong 2 0))
+subtypeOf v at = placed at (cond (member v subtypes) (fine v) (wrong 2 0))

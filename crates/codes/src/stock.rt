@@ -2,7 +2,7 @@
 ghost use mathlib.Core.Path.{_≡_};
 ghost use lib.Dec.{eqb};
 ghost use Rattle.format.specs.Ascii.{'Y', 'P'};
-ghost use Rattle.codes.specs.Names.{authenticityByte, categoryByte, categoryFrom, classByte, classFrom, flagByte, flagFrom, statusByte, statusFrom, tierByte, tierFrom, yesNoByte};
+ghost use Rattle.codes.specs.Names.{authenticityByte, categoryByte, categoryFrom, classByte, classFrom, etpFlagByte, etpFlagFrom, flagByte, flagFrom, statusByte, statusFrom, tierByte, tierFrom, yesNoByte};
 
 // Where a stock is listed.
 pub enum MarketCategory {
@@ -227,6 +227,38 @@ pub fn flag_code(x: Flag) -> u8
         Flag::Yes => b'Y',
         Flag::No => b'N',
         Flag::Absent => b' ',
+    }
+}
+
+// The ETP flag: yes, no or absent, and M, which has the letter for its name. The Rust's Option<bool> takes M for yes, and nothing says what else it means.
+pub enum EtpFlag {
+    Yes,
+    No,
+    M,
+    Absent,
+}
+
+// The name of a byte; Absent for any that is no code.
+pub fn etp_flag_of(b: u8) -> EtpFlag
+    ensures { λ r. ⌜ r ≡ etpFlagFrom b ⌝ }
+{
+    match b {
+        b'Y' => EtpFlag::Yes,
+        b'N' => EtpFlag::No,
+        b'M' => EtpFlag::M,
+        _ => EtpFlag::Absent,
+    }
+}
+
+// The byte of a name.
+pub fn etp_flag_code(x: EtpFlag) -> u8
+    ensures { λ r. ⌜ r ≡ etpFlagByte x ⌝ }
+{
+    match x {
+        EtpFlag::Yes => b'Y',
+        EtpFlag::No => b'N',
+        EtpFlag::M => b'M',
+        EtpFlag::Absent => b' ',
     }
 }
 

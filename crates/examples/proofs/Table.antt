@@ -3,11 +3,11 @@
 use mathlib.Core.Path.{_≡_, refl}
 use mathlib.Core.List.{List, [], _∷_, map}
 use mathlib.Core.Logic.{inl, inr}
-use Rattle.format.specs.Codes.{side, yesNo, direction, imbalanceCross, cross, category, status, class, authenticity, flag, tier, etpFlag, event, subtypes}
+use Rattle.format.specs.Codes.{side, yesNo, tradingState, direction, imbalanceCross, cross, category, status, class, authenticity, flag, tier, etpFlag, event, subtypes}
 use Rattle.format.specs.Utf8.{utfStep, utfRun, wellFormed, badFrom, firstBad}
 use Rattle.format.specs.Layout.{judge, field}
 use Rattle.format.specs.Rows.{window}
-use Rattle.codes.specs.Names.{eventFrom, categoryFrom, statusFrom, classFrom, subtypeByte, subtypeFrom, crossFrom, sideFrom, flagFrom, tierFrom}
+use Rattle.codes.specs.Names.{eventFrom, categoryFrom, statusFrom, classFrom, subtypeByte, subtypeFrom, crossFrom, sideFrom, flagFrom, tierFrom, etpFlagFrom, tradingStateFrom}
 use Rattle.records.specs.Values.{bodyFrom}
 use Rattle.reader.specs.Window.{windowOf}
 use Rattle.walk.specs.Walk.{frameOf}
@@ -17,9 +17,9 @@ use Rattle.examples.specs.Examples as Examples
 
 table : map anew rows ≡ rows
 unfolding windowOf window field judge utfStep utfRun wellFormed badFrom firstBad bodyFrom frameOf walkAt
-    side yesNo direction imbalanceCross cross category status class authenticity flag tier etpFlag event subtypes
+    side yesNo tradingState direction imbalanceCross cross category status class authenticity flag tier etpFlag event subtypes
     eventFrom categoryFrom statusFrom classFrom subtypeByte subtypeFrom
-    crossFrom sideFrom flagFrom tierFrom
+    crossFrom sideFrom flagFrom tierFrom etpFlagFrom tradingStateFrom
 table = refl
 
 holds : (r : Row) → anew r ≡ r → Holds r

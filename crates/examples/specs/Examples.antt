@@ -8,8 +8,10 @@ use mathlib.Core.List.{List, [], _∷_, _++_}
 use mathlib.Core.Logic.{_⊎_}
 use Rattle.codes.specs.declared.trade.CrossType.the-variants.{Intraday}
 use Rattle.codes.specs.declared.market.EventCode.the-variants.{StartOfMessages}
+use Rattle.codes.specs.declared.market.TradingState.the-variants.{Halted}
+use Rattle.codes.specs.declared.stock.EtpFlag.the-variants.{M}
 use Rattle.codes.specs.declared.stock.FinancialStatus.the-variants.{Normal}
-use Rattle.codes.specs.declared.stock.Flag.the-variants.{Yes, No, Absent}
+use Rattle.codes.specs.declared.stock.Flag.the-variants.{No, Absent}
 use Rattle.codes.specs.declared.stock.IssueClassification.the-variants.{OtherSecurities}
 use Rattle.codes.specs.declared.subtype.IssueSubType.the-variants.{ETFPortfolioDepositaryReceipt}
 use Rattle.codes.specs.declared.stock.LuldRefPriceTier.the-variants.{Tier1}
@@ -101,8 +103,8 @@ r-with-m =
     -- authenticity, short sale, IPO, LULD tier, ETP; leverage; inverse
     ++ (0x50 ∷ 0x4e ∷ 0x20 ∷ 0x31 ∷ 0x4d ∷ []) ++ n4 ++ (0x4e ∷ [])
 
-abbrev etp-yes : StockDirectory
-etp-yes = record {
+abbrev etp-m : StockDirectory
+etp-m = record {
   stock = 0x4141504c20202020;
   «market_category» = NasdaqGlobalMarket;
   «financial_status» = Normal;
@@ -114,7 +116,7 @@ etp-yes = record {
   «short_sale_threshold» = No;
   «ipo_flag» = Absent;
   «luld_ref_price_tier» = Tier1;
-  «etp_flag» = Yes;
+  «etp_flag» = M;
   «etp_leverage_factor» = 100;
   «inverse_indicator» = false;
 }
@@ -130,6 +132,10 @@ a-with-stock t = 0x00 ∷ 0x24 ∷ 0x41 ∷ head ++ n8 ++ (0x42 ∷ []) ++ n4 ++
 -- one with é (c3 a9) in it
 abbrev accented : AddOrder
 accented = record { reference = 42; side = Buy; shares = 100; stock = 0x434146c3a9202020; price = 100; mpid = Mpid·.Absent }
+
+-- an H with this reserved byte, at place 22
+abbrev h-with : ℕ → List ℕ
+h-with reserved = 0x00 ∷ 0x19 ∷ 0x48 ∷ head ++ stock ++ (0x48 ∷ reserved ∷ 0x4c ∷ 0x55 ∷ 0x44 ∷ 0x50 ∷ [])
 
 -- line two of the page behind its length, and the message that it is
 abbrev line-two : List ℕ
@@ -173,8 +179,8 @@ rows =
     -- Cross code I: legal in Q, 2 at 50 in I.
     ∷ window 7 q-with-i (Accepted (with-head 0x51 (Body·.CrossTrade intraday)) 42)
     ∷ window 7 i-with-i (Refused 2 50)
-    -- R with M at 35: yes.
-    ∷ window 8 r-with-m (Accepted (with-head 0x52 (Body·.StockDirectory etp-yes)) 41)
+    -- R with M at 35: M.
+    ∷ window 8 r-with-m (Accepted (with-head 0x52 (Body·.StockDirectory etp-m)) 41)
     -- A with byte ff as the stock's first, 34 bytes: 3 at 26; 33 bytes: incomplete; a bad side too: 2 at 21.
     ∷ window 9 (a-with-ff 0x42 ++ (0x20 ∷ [])) (Refused 3 26)
     ∷ window 9 (a-with-ff 0x42) Incomplete
@@ -192,6 +198,8 @@ rows =
     -- Further runs: c3 a9 in a stock is legal, c3 as its eighth byte is 3, at 33: the stock's end cuts its sequence off.
     ∷ window 0 (a-with-stock (0x43 ∷ 0x41 ∷ 0x46 ∷ 0xc3 ∷ 0xa9 ∷ 0x20 ∷ 0x20 ∷ 0x20 ∷ [])) (Accepted (with-head 0x41 (Body·.AddOrder accented)) 38)
     ∷ window 0 (a-with-stock (0x43 ∷ 0x41 ∷ 0x46 ∷ 0x20 ∷ 0x20 ∷ 0x20 ∷ 0x20 ∷ 0xc3 ∷ [])) (Refused 3 33)
+    -- Any reserved byte of an H is kept.
+    ∷ window 0 (h-with 0x58) (Accepted (with-head 0x48 (Body·.TradingAction 0x4141504c20202020 Halted 0x58 0x4c554450)) 27)
     -- The page's five lines, as `frames` prints them.
     ∷ walk 0 ((0x00 ∷ 0x0c ∷ line-one) ++ (0x00 ∷ 0x13 ∷ line-two) ++ (0x00 ∷ 0x0c ∷ line-three) ++ (0x00 ∷ 0x01 ∷ 0x5a ∷ 0x00 ∷ []))
     (walked (accepted 0 14 opens ∷ accepted 14 21 deletes ∷ refused 35 14 2 13 ∷ refused 49 3 20 0 ∷ []) 52 1)

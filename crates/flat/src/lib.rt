@@ -273,7 +273,7 @@ fn directory(x: StockDirectory) -> [u64; 19]
         codes::flag_code(x_short_sale_threshold) as u64,
         codes::flag_code(x_ipo_flag) as u64,
         codes::tier_code(x_luld_ref_price_tier) as u64,
-        codes::flag_code(x_etp_flag) as u64,
+        codes::etp_flag_code(x_etp_flag) as u64,
         x.etp_leverage_factor as u64,
         codes::yes_no_code(x.inverse_indicator) as u64,
     ]
@@ -386,13 +386,14 @@ fn body_numbers(body: Body) -> [u64; 19]
         Body::TradingAction {
             stock,
             trading_state: way,
+            reserved,
             reason,
         } => numbers(
             b'H',
             stock,
             codes::trading_state_code(way) as u64,
+            reserved as u64,
             reason as u64,
-            0,
             0,
             0,
             0,

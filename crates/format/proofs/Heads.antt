@@ -8,7 +8,7 @@ use Prim.Native.Nat.{ℕ, _+_, _*_, _/_, _%_, _^_, _<_, _≤_}
 use native.Mathlib.Omega.{arith}
 use lib.Dec.{T}
 use lib.ListN.{length, getD, drop}
-use Rattle.format.specs.Layout.{Kind, num, time, text, code, etp, subtype, skip, width, widths, be, part, got, short, judge, field, Answer, accepted, incomplete, read}
+use Rattle.format.specs.Layout.{Kind, num, time, text, code, subtype, width, widths, be, part, got, short, judge, field, Answer, accepted, incomplete, read}
 use Rattle.format.specs.Rows.{header, headerOf}
 use Rattle.format.proofs.Tests.{both, le-or-lt}
 use Rattle.format.proofs.Bytes.{Bytes, be-one, be-split, be-below}
@@ -21,19 +21,15 @@ plain (num w) = true
 plain time = true
 plain (text w) = false
 plain (code set) = false
-plain etp = false
 plain subtype = false
-plain skip = true
 
-plain-got : (k : Kind) (s : List ℕ) (at : ℕ) → T (plain k) → at + width k ≤ length s → (v : List ℕ) × (field k s at ≡ got v)
+plain-got : (k : Kind) (s : List ℕ) (at : ℕ) → T (plain k) → at + width k ≤ length s → (v : ℕ) × (field k s at ≡ got v)
 unfolding judge
-plain-got (num w) s at p h = (be (part s at w) ∷ [], field-judged (num w) s at h)
-plain-got time s at p h = (be (part s at 6) ∷ [], field-judged time s at h)
+plain-got (num w) s at p h = (be (part s at w), field-judged (num w) s at h)
+plain-got time s at p h = (be (part s at 6), field-judged time s at h)
 plain-got (text w) s at p h = absurd p
 plain-got (code set) s at p h = absurd p
-plain-got etp s at p h = absurd p
 plain-got subtype s at p h = absurd p
-plain-got skip s at p h = ([], field-judged skip s at h)
 
 abbrev plains : List Kind → Bool
 plains [] = true
@@ -45,7 +41,7 @@ cut : (ks : List Kind) (s : List ℕ) (at : ℕ) (acc : List ℕ) (go : List ℕ
 cut [] s at acc go p l h = absurd (omega arith)
 cut (k ∷ ks) s at acc go p l h =
     ⊎-elim
-    (λ g. let q = plain-got k s at (both (plain k) (plains ks) p .0) g in rw (q .1) (cut ks s (at + width k) (acc ++ q .0) go (both (plain k) (plains ks) p .1) g (omega arith)))
+    (λ g. let q = plain-got k s at (both (plain k) (plains ks) p .0) g in rw (q .1) (cut ks s (at + width k) (acc ++ (q .0 ∷ [])) go (both (plain k) (plains ks) p .1) g (omega arith)))
     (λ g. rw (← field-short k s at g))
     (le-or-lt (at + width k) (length s))
 
@@ -56,7 +52,7 @@ pub header-short : (s : List ℕ) → length s < 13 → incomplete ≡ headerOf 
 unfolding headerOf
 header-short s h = sym (header-cut s (λ h. accepted (drop 1 h)) h)
 
-field-time : (s : List ℕ) (at : ℕ) → at + 6 ≤ length s → field time s at ≡ got (be (part s at 6) ∷ [])
+field-time : (s : List ℕ) (at : ℕ) → at + 6 ≤ length s → field time s at ≡ got (be (part s at 6))
 unfolding judge
 field-time s at h = field-judged time s at h
 

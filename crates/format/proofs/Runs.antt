@@ -22,19 +22,19 @@ fault m n p q d z = sym p ∙ ap m q ∙ d ∙ ap faultM (sym (z ∙ ap n q))
 -- every field of a row has its value
 pub data Reads (s : List ℕ) : List Kind → ℕ → List ℕ → Type 0 where
   end : {at : ℕ} → Reads s [] at []
-  _⨾_ : {k : Kind} {ks : List Kind} {at : ℕ} {v vs : List ℕ} → field k s at ≡ got v → Reads s ks (at + width k) vs → Reads s (k ∷ ks) at (v ++ vs)
+  _⨾_ : {k : Kind} {ks : List Kind} {at v : ℕ} {vs : List ℕ} → field k s at ≡ got v → Reads s ks (at + width k) vs → Reads s (k ∷ ks) at (v ∷ vs)
 
 infixr 30 _⨾_
 pub reads : {s : List ℕ} {ks : List Kind} {at : ℕ} {vs : List ℕ} → Reads s ks at vs → (acc : List ℕ) (go : List ℕ → ℕ → Answer)
     → read ks s at acc go ≡ go (acc ++ vs) (at + widths ks)
 reads (end {at = at}) acc go = rw (append-nil, add-zero)
 reads (_⨾_ {k = k} {ks = ks} {at = at} {v = v} {vs = vs} e r) acc go =
-    rw e (reads r (acc ++ v) go ∙ rw (append-assoc acc v vs, add-assoc at (width k) (widths ks)))
+    rw e (reads r (acc ++ (v ∷ [])) go ∙ rw (append-assoc acc (v ∷ []) vs, add-assoc at (width k) (widths ks)))
 
 -- the fields of a row, read from a place on, have values up to a field: what is left of the row, and where that stands
 pub data Upto (s : List ℕ) (row : List Kind) (from : ℕ) : List Kind → ℕ → Type 0 where
   start : Upto s row from row from
-  _▹_ : {k : Kind} {ks : List Kind} {at : ℕ} {v : List ℕ} → Upto s row from (k ∷ ks) at → field k s at ≡ got v → Upto s row from ks (at + width k)
+  _▹_ : {k : Kind} {ks : List Kind} {at v : ℕ} → Upto s row from (k ∷ ks) at → field k s at ≡ got v → Upto s row from ks (at + width k)
 
 infixl 30 _▹_
 passed : {s : List ℕ} {row : List Kind} {from : ℕ} {ks : List Kind} {at : ℕ} → Upto s row from ks at → (acc : List ℕ) (go : List ℕ → ℕ → Answer)
@@ -42,9 +42,9 @@ passed : {s : List ℕ} {row : List Kind} {from : ℕ} {ks : List Kind} {at : �
 passed start acc go = (acc, refl)
 passed (_▹_ {v = v} u e) acc go =
     let r = passed u acc go in
-    (r .0 ++ v, r .1 ∙ rw e refl)
+    (r .0 ++ (v ∷ []), r .1 ∙ rw e refl)
 
-step-fault : (e : Fault) (go : List ℕ → Answer) → step (faultM e) go ≡ stopM e
+step-fault : (e : Fault) (go : ℕ → Answer) → step (faultM e) go ≡ stopM e
 step-fault Short go = refl
 step-fault (Refused n p) go = refl
 

@@ -23,11 +23,11 @@ pre acc (refuses n p) = refuses n p
 
 read-pre : (ks : List Kind) (s : List ℕ) (at : ℕ) (acc vs : List ℕ) → read ks s at (acc ++ vs) accepted ≡ pre acc (read ks s at vs accepted)
 read-pre [] s at acc vs = refl
-read-pre (k ∷ ks) s at acc vs = go (field k s at) (λ v. read-pre ks s (at + width k) acc (vs ++ v))
+read-pre (k ∷ ks) s at acc vs = go (field k s at) (λ v. read-pre ks s (at + width k) acc (vs ++ (v ∷ [])))
   where
-    go : (g : Got) → ((v : List ℕ) → read ks s (at + width k) (acc ++ (vs ++ v)) accepted ≡ pre acc (read ks s (at + width k) (vs ++ v) accepted))
-        → step g (λ v. read ks s (at + width k) ((acc ++ vs) ++ v) accepted) ≡ pre acc (step g (λ v. read ks s (at + width k) (vs ++ v) accepted))
-    go (got v) rest = rw (append-assoc acc vs v) (rest v)
+    go : (g : Got) → ((v : ℕ) → read ks s (at + width k) (acc ++ (vs ++ (v ∷ []))) accepted ≡ pre acc (read ks s (at + width k) (vs ++ (v ∷ [])) accepted))
+        → step g (λ v. read ks s (at + width k) ((acc ++ vs) ++ (v ∷ [])) accepted) ≡ pre acc (step g (λ v. read ks s (at + width k) (vs ++ (v ∷ [])) accepted))
+    go (got v) rest = rw (append-assoc acc vs (v ∷ [])) (rest v)
     go short rest = refl
     go (refused n p) rest = refl
 

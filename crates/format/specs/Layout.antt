@@ -5,28 +5,23 @@ use mathlib.Core.List.{List, [], _∷_, _++_}
 use mathlib.Core.Bool.{Bool, false, cond, _||_}
 use lib.Dec.{leb, eqb}
 use lib.ListN.{length, take, drop}
-use Rattle.format.specs.Ascii.{'Y', 'M'}
-use Rattle.format.specs.Codes.{etpFlag, subtypes}
+use Rattle.format.specs.Codes.{subtypes}
 use Rattle.format.specs.Utf8.{wellFormed, firstBad}
 
--- a field: a number of w bytes; the timestamp; a text of w bytes; a code of a set; the ETP flag; the issue subtype; any byte, not kept
+-- a field: a number of w bytes; the timestamp; a text of w bytes; a code of a set; the issue subtype
 pub data Kind : Type 0 where
   num : ℕ → Kind
   time : Kind
   text : ℕ → Kind
   code : List ℕ → Kind
-  etp : Kind
   subtype : Kind
-  skip : Kind
 
 abbrev pub width : Kind → ℕ
 width (num w) = w
 width time = 6
 width (text w) = w
 width (code set) = 1
-width etp = 1
 width subtype = 2
-width skip = 1
 
 -- the bytes of a row
 abbrev pub widths : List Kind → ℕ
@@ -45,29 +40,22 @@ abbrev pub member : ℕ → List ℕ → Bool
 member b [] = false
 member b (x ∷ xs) = eqb b x || member b xs
 
--- what a field's bytes are judged to be: the value that it gives (none if it is not kept); or a refusal's number, and its place counted from
--- the field's first byte
+-- what a field's bytes are judged to be: the value that it gives; or a refusal's number, and its place counted from the field's first byte
 pub data Verdict : Type 0 where
-  fine : List ℕ → Verdict
+  fine : ℕ → Verdict
   wrong : ℕ → ℕ → Verdict
-
--- of the ETP codes M reads as yes
-abbrev pub asYes : ℕ → ℕ
-asYes b = cond (eqb b 'M') 'Y' b
 
 -- the judgement of each kind of field: an illegal code is 2, at the field's first byte; a text that is not UTF-8 is 3, where its first bad sequence begins
 unfoldable pub judge : Kind → List ℕ → Verdict
-judge (num w) bs = fine (be bs ∷ [])
-judge time bs = fine (be bs ∷ [])
-judge (text w) bs = cond (wellFormed bs) (fine (be bs ∷ [])) (wrong 3 (firstBad bs))
-judge (code set) bs = cond (member (be bs) set) (fine (be bs ∷ [])) (wrong 2 0)
-judge etp bs = cond (member (be bs) etpFlag) (fine (asYes (be bs) ∷ [])) (wrong 2 0)
-judge subtype bs = cond (member (be bs) subtypes) (fine (be bs ∷ [])) (wrong 2 0)
-judge skip bs = fine []
+judge (num w) bs = fine (be bs)
+judge time bs = fine (be bs)
+judge (text w) bs = cond (wellFormed bs) (fine (be bs)) (wrong 3 (firstBad bs))
+judge (code set) bs = cond (member (be bs) set) (fine (be bs)) (wrong 2 0)
+judge subtype bs = cond (member (be bs) subtypes) (fine (be bs)) (wrong 2 0)
 
 -- what a field answers: its value; not all of its bytes are there; refused, with number and place
 pub data Got : Type 0 where
-  got : List ℕ → Got
+  got : ℕ → Got
   short : Got
   refused : ℕ → ℕ → Got
 
@@ -90,7 +78,7 @@ pub data Answer : Type 0 where
   refuses : ℕ → ℕ → Answer
 
 -- a field's value goes on; a field that is short makes the window incomplete; the first bad field gives the refusal
-abbrev pub step : Got → (List ℕ → Answer) → Answer
+abbrev pub step : Got → (ℕ → Answer) → Answer
 step (got v) go = go v
 step short go = incomplete
 step (refused n p) go = refuses n p
@@ -98,4 +86,4 @@ step (refused n p) go = refuses n p
 -- the fields in order, from a place on, after the values vs; then `go` has all the values and the place behind the last field
 abbrev pub read : List Kind → List ℕ → ℕ → List ℕ → (List ℕ → ℕ → Answer) → Answer
 read [] s at vs go = go vs at
-read (k ∷ ks) s at vs go = step (field k s at) (λ v. read ks s (at + width k) (vs ++ v) go)
+read (k ∷ ks) s at vs go = step (field k s at) (λ v. read ks s (at + width k) (vs ++ (v ∷ [])) go)

@@ -29,19 +29,19 @@ stopM Short = incomplete
 stopM (Refused n p) = refuses n p
 
 abbrev pub num8M : Num8 → Got
-num8M (Got8 v) = got (v ∷ [])
+num8M (Got8 v) = got v
 num8M (No8 e) = faultM e
 
 abbrev pub num16M : Num16 → Got
-num16M (Got16 v) = got (v ∷ [])
+num16M (Got16 v) = got v
 num16M (No16 e) = faultM e
 
 abbrev pub num32M : Num32 → Got
-num32M (Got32 v) = got (v ∷ [])
+num32M (Got32 v) = got v
 num32M (No32 e) = faultM e
 
 abbrev pub num64M : Num64 → Got
-num64M (Got64 v) = got (v ∷ [])
+num64M (Got64 v) = got v
 num64M (No64 e) = faultM e
 
 -- the fault of an answer that has no value

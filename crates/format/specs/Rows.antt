@@ -6,8 +6,8 @@ use mathlib.Core.Bool.{cond}
 use lib.Dec.{eqb}
 use lib.ListN.{getD, drop}
 use Rattle.format.specs.Ascii.{'A', 'B', 'C', 'D', 'E', 'F', 'H', 'I', 'J', 'K', 'L', 'N', 'P', 'Q', 'R', 'S', 'U', 'V', 'W', 'X', 'Y'}
-use Rattle.format.specs.Codes.{side, yesNo, tradingState, direction, imbalanceCross, qualifier, makerMode, participantState, interest, cross, category, status, class, authenticity, flag, tier, event, level, action}
-use Rattle.format.specs.Layout.{Kind, num, time, text, code, etp, subtype, skip, Answer, accepted, refuses, read}
+use Rattle.format.specs.Codes.{side, yesNo, tradingState, direction, imbalanceCross, qualifier, makerMode, participantState, interest, cross, category, status, class, authenticity, flag, tier, etpFlag, event, level, action}
+use Rattle.format.specs.Layout.{Kind, num, time, text, code, subtype, Answer, accepted, refuses, read}
 
 -- a tag, its size from the tag on, and the fields of its body
 pub record Row : Type 0 where
@@ -39,7 +39,7 @@ rows =
     -- order executed: as above
     ∷ row 'E' 31 execution
     -- trading action: stock, state, reserved, reason
-    ∷ row 'H' 25 (text 8 ∷ code tradingState ∷ skip ∷ text 4 ∷ [])
+    ∷ row 'H' 25 (text 8 ∷ code tradingState ∷ num 1 ∷ text 4 ∷ [])
     -- imbalance: paired, imbalance, direction, stock, far, near, reference price, cross, variation
     ∷ row 'I' 50 (num 8 ∷ num 8 ∷ code direction ∷ text 8 ∷ num 4 ∷ num 4 ∷ num 4 ∷ code imbalanceCross ∷ num 1 ∷ [])
     -- LULD auction collar: stock, three prices, extension
@@ -58,7 +58,7 @@ rows =
     -- leverage, inverse
     ∷ row 'R' 39
     (text 8 ∷ code category ∷ code status ∷ num 4 ∷ code yesNo ∷ code class ∷ subtype ∷ code authenticity ∷ code flag ∷ code flag
-    ∷ code tier ∷ etp ∷ num 4 ∷ code yesNo ∷ [])
+    ∷ code tier ∷ code etpFlag ∷ num 4 ∷ code yesNo ∷ [])
     -- system event: event
     ∷ row 'S' 12 (code event ∷ [])
     -- replace order: old reference, new reference, shares, price

@@ -7,15 +7,15 @@ use mathlib.Core.List.{List, [], _∷_, _++_}
 use native.Mathlib.Omega.{arith}
 use lib.Dec.{leb}
 use lib.ListN.{length, getD, drop}
-use Rattle.format.specs.Layout.{be, member, Kind, num, time, text, code, etp, subtype, skip, width, part, asYes, fine, wrong, placed, Got, got, short, refused, judge, field, Answer, accepted, incomplete, refuses, step, read}
-use Rattle.format.specs.Codes.{etpFlag, subtypes}
+use Rattle.format.specs.Layout.{be, member, Kind, num, time, text, code, subtype, width, part, fine, wrong, placed, Got, got, short, refused, judge, field, Answer, accepted, incomplete, refuses, step, read}
+use Rattle.format.specs.Codes.{subtypes}
 use Rattle.format.specs.Rows.{rows, Found, found, none, find, under, header, message, window}
 use Rattle.format.proofs.Fields.{text-cases}
 use Rattle.reader.specs.declared.Window.the-variants.{Refused}
 use Rattle.reader.specs.Window.{windowFrom, windowOf}
 
 data Field : Got → Type 0 where
-  value : {v : List ℕ} → Field (got v)
+  value : {v : ℕ} → Field (got v)
   cut : Field short
   bad : {n p : ℕ} → (1 ≤ n) × (n ≤ 3) → Field (refused n p)
 
@@ -24,7 +24,7 @@ data Whole : Answer → Type 0 where
   not-there : Whole incomplete
   low : {n p : ℕ} → (1 ≤ n) × (n ≤ 3) → Whole (refuses n p)
 
-judged : (b : Bool) (v : List ℕ) (n at : ℕ) → (1 ≤ n) × (n ≤ 3) → Field (placed at (cond b (fine v) (wrong n 0)))
+judged : (b : Bool) (v n at : ℕ) → (1 ≤ n) × (n ≤ 3) → Field (placed at (cond b (fine v) (wrong n 0)))
 judged true v n at h = value
 judged false v n at h = bad h
 
@@ -33,10 +33,8 @@ unfolding judge
 judge-low (num w) bs at = value
 judge-low time bs at = value
 judge-low (text w) bs at = text-cases (λ x. Field (placed at x)) w bs (λ _. value) (λ _. bad (omega arith, omega arith))
-judge-low (code set) bs at = judged (member (be bs) set) (be bs ∷ []) 2 at (omega arith, omega arith)
-judge-low etp bs at = judged (member (be bs) etpFlag) (asYes (be bs) ∷ []) 2 at (omega arith, omega arith)
-judge-low subtype bs at = judged (member (be bs) subtypes) (be bs ∷ []) 2 at (omega arith, omega arith)
-judge-low skip bs at = value
+judge-low (code set) bs at = judged (member (be bs) set) (be bs) 2 at (omega arith, omega arith)
+judge-low subtype bs at = judged (member (be bs) subtypes) (be bs) 2 at (omega arith, omega arith)
 
 there : (b : Bool) (g : Got) → Field g → Field (cond b g short)
 there true g p = p
@@ -46,14 +44,14 @@ field-low : (k : Kind) (s : List ℕ) (at : ℕ) → Field (field k s at)
 unfolding field
 field-low k s at = there (leb (at + width k) (length s)) (placed at (judge k (part s at (width k)))) (judge-low k (part s at (width k)) at)
 
-step-low : (g : Got) (go : List ℕ → Answer) → Field g → ((v : List ℕ) → Whole (go v)) → Whole (step g go)
+step-low : (g : Got) (go : ℕ → Answer) → Field g → ((v : ℕ) → Whole (go v)) → Whole (step g go)
 step-low (got v) go p f = f v
 step-low short go p f = not-there
 step-low (refused n p) go (bad h) f = low h
 
 read-low : (ks : List Kind) (s : List ℕ) (at : ℕ) (vs : List ℕ) (go : List ℕ → ℕ → Answer) → ((vs : List ℕ) (n : ℕ) → Whole (go vs n)) → Whole (read ks s at vs go)
 read-low [] s at vs go f = f vs at
-read-low (k ∷ ks) s at vs go f = step-low (field k s at) _ (field-low k s at) (λ v. read-low ks s (at + width k) (vs ++ v) go f)
+read-low (k ∷ ks) s at vs go f = step-low (field k s at) _ (field-low k s at) (λ v. read-low ks s (at + width k) (vs ++ (v ∷ [])) go f)
 
 under-low : (f : Found) (s : List ℕ) (at : ℕ) (vs : List ℕ) → Whole (under f s at vs)
 under-low (found r) s at vs = read-low (r .body) s at vs accepted (λ ws n. read-all)

@@ -36,7 +36,7 @@ placed-there at (wrong n o) e = let z : _≡_ {A = ℕ} 0 1 = cc in omega arith
 field-there : (k : Kind) (s : List ℕ) (at : ℕ) → at + width k ≤ length s → field k s at ≡ short → ⊥
 field-there k s at h e = placed-there at (judge k (part s at (width k))) (sym (field-judged k s at h) ∙ e)
 
-step-keeps : (g : Got) (R R′ : List ℕ → Answer) → Firm (step g R) → ((v : List ℕ) → Firm (R v) → R′ v ≡ R v) → step g R′ ≡ step g R
+step-keeps : (g : Got) (R R′ : ℕ → Answer) → Firm (step g R) → ((v : ℕ) → Firm (R v) → R′ v ≡ R v) → step g R′ ≡ step g R
 step-keeps (got v) R R′ f h = h v f
 step-keeps short R R′ f h = refl
 step-keeps (refused n p) R R′ f h = refl
@@ -47,11 +47,11 @@ pub keeps : (ks : List Kind) (s t : List ℕ) (at : ℕ) (acc : List ℕ) (go go
 keeps [] s t at acc go go′ h f = h acc at f
 keeps (k ∷ ks) s t at acc go go′ h f =
     ⊎-elim
-    (λ l. rw (field-append k s t at l) (step-keeps (field k s at) _ _ f (λ v. keeps ks s t (at + width k) (acc ++ v) go go′ h)))
+    (λ l. rw (field-append k s t at l) (step-keeps (field k s at) _ _ f (λ v. keeps ks s t (at + width k) (acc ++ (v ∷ [])) go go′ h)))
     (λ l. absurd (f (rw (← field-short k s at l))))
     (le-or-lt (at + width k) (length s))
 
-step-firm : (g : Got) (R : List ℕ → Answer) → (g ≡ short → ⊥) → ((v : List ℕ) → Firm (R v)) → Firm (step g R)
+step-firm : (g : Got) (R : ℕ → Answer) → (g ≡ short → ⊥) → ((v : ℕ) → Firm (R v)) → Firm (step g R)
 step-firm (got v) R n h = h v
 step-firm short R n h = absurd (n refl)
 step-firm (refused a b) R n h = λ e. let z : _≡_ {A = ℕ} 0 1 = cc in omega arith
@@ -60,28 +60,28 @@ pub enough : (ks : List Kind) (s : List ℕ) (at : ℕ) (acc : List ℕ) (go : L
     → at + widths ks ≤ length s → ((vs : List ℕ) (n : ℕ) → Firm (go vs n)) → Firm (read ks s at acc go)
 enough [] s at acc go l h = h acc at
 enough (k ∷ ks) s at acc go l h =
-    step-firm (field k s at) _ (field-there k s at (omega arith)) (λ v. enough ks s (at + width k) (acc ++ v) go (omega arith) h)
+    step-firm (field k s at) _ (field-there k s at (omega arith)) (λ v. enough ks s (at + width k) (acc ++ (v ∷ [])) go (omega arith) h)
 
 -- an accepted row: all of its fields have values, and what comes after them accepts
 pub all-read : (ks : List Kind) (s : List ℕ) (at : ℕ) (acc : List ℕ) (go : List ℕ → ℕ → Answer) (vs : List ℕ) (n : ℕ)
     → read ks s at acc go ≡ accepted vs n → (hs : List ℕ) × Reads s ks at hs × (go (acc ++ hs) (at + widths ks) ≡ accepted vs n)
 all-read [] s at acc go vs n e = ([], end, rw (append-nil, add-zero) e)
-all-read (k ∷ ks) s at acc go vs n e = next (field k s at) refl e (λ v. all-read ks s (at + width k) (acc ++ v) go vs n)
+all-read (k ∷ ks) s at acc go vs n e = next (field k s at) refl e (λ v. all-read ks s (at + width k) (acc ++ (v ∷ [])) go vs n)
   where
-    more : (v : List ℕ) → field k s at ≡ got v
-        → (hs : List ℕ) × Reads s ks (at + width k) hs × (go ((acc ++ v) ++ hs) (at + width k + widths ks) ≡ accepted vs n)
+    more : (v : ℕ) → field k s at ≡ got v
+        → (hs : List ℕ) × Reads s ks (at + width k) hs × (go ((acc ++ (v ∷ [])) ++ hs) (at + width k + widths ks) ≡ accepted vs n)
         → (hs : List ℕ) × Reads s (k ∷ ks) at hs × (go (acc ++ hs) (at + (width k + widths ks)) ≡ accepted vs n)
-    more v q r = (v ++ r .0, q ⨾ r .1, rw (append-assoc acc v (r .0), add-assoc at (width k) (widths ks)) at (r .2))
+    more v q r = (v ∷ r .0, q ⨾ r .1, rw (append-assoc acc (v ∷ []) (r .0), add-assoc at (width k) (widths ks)) at (r .2))
 
-    next : (g : Got) → field k s at ≡ g → step g (λ v. read ks s (at + width k) (acc ++ v) go) ≡ accepted vs n
-        → ((v : List ℕ) → read ks s (at + width k) (acc ++ v) go ≡ accepted vs n
-        → (hs : List ℕ) × Reads s ks (at + width k) hs × (go ((acc ++ v) ++ hs) (at + width k + widths ks) ≡ accepted vs n))
+    next : (g : Got) → field k s at ≡ g → step g (λ v. read ks s (at + width k) (acc ++ (v ∷ [])) go) ≡ accepted vs n
+        → ((v : ℕ) → read ks s (at + width k) (acc ++ (v ∷ [])) go ≡ accepted vs n
+        → (hs : List ℕ) × Reads s ks (at + width k) hs × (go ((acc ++ (v ∷ [])) ++ hs) (at + width k + widths ks) ≡ accepted vs n))
         → (hs : List ℕ) × Reads s (k ∷ ks) at hs × (go (acc ++ hs) (at + (width k + widths ks)) ≡ accepted vs n)
     next (got v) q e′ rest = more v q (rest v e′)
     next short q e′ rest = let z : _≡_ {A = ℕ} 0 1 = cc in absurd (omega arith)
     next (refused a b) q e′ rest = let z : _≡_ {A = ℕ} 0 1 = cc in absurd (omega arith)
 
-pub field-has : (k : Kind) (s : List ℕ) (at : ℕ) {v : List ℕ} → field k s at ≡ got v → at + width k ≤ length s
+pub field-has : (k : Kind) (s : List ℕ) (at : ℕ) {v : ℕ} → field k s at ≡ got v → at + width k ≤ length s
 field-has k s at e =
     ⊎-elim (λ l. l)
     (λ l. let q : short ≡ field k s at = field-short k s at l in let z : _≡_ {A = ℕ} 0 1 = cc in absurd (omega arith))

@@ -42,7 +42,7 @@ pushed m false x y = refl
 
 -- the answer of an enum with a value and a fault, from its field's answer
 abbrev field-back : {A : Type 0} → (ℕ → A) → (Fault → A) → Got → A
-field-back value fault (got v) = value (getD v 0 0)
+field-back value fault (got v) = value v
 field-back value fault short = fault Short
 field-back value fault (refused n p) = fault (Refused n p)
 

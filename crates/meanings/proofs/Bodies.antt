@@ -3,44 +3,42 @@
 use Prim.Native.Nat.{ℕ, _+_}
 use mathlib.Core.Path.{_≡_, refl, sym, subst}
 use mathlib.Core.Bool.{Bool, true, false, cond}
-use mathlib.Core.List.{List, [], _∷_, _++_}
+use mathlib.Core.List.{List, [], _∷_}
 use native.Mathlib.Omega.{arith}
 use borrow.Author.Tests.{eqb-true}
 use lib.Dec.{eqb, leb}
 use lib.ListN.{length}
 use Rattle.format.specs.Ascii.{'A', 'B', 'C', 'D', 'E', 'F', 'H', 'I', 'J', 'K', 'L', 'N', 'P', 'Q', 'R', 'S', 'U', 'V', 'W', 'X', 'Y'}
-use Rattle.format.specs.Codes.{etpFlag, subtypes}
-use Rattle.format.specs.Layout.{Kind, num, time, text, code, etp, subtype, skip, width, be, part, member, asYes, fine, wrong, placed, Got, got, short, refused, judge, field, accepted}
+use Rattle.format.specs.Codes.{subtypes}
+use Rattle.format.specs.Layout.{Kind, num, time, text, code, subtype, width, be, part, member, fine, wrong, placed, Got, got, short, refused, judge, field, accepted}
 use Rattle.format.specs.Rows.{Row, rows, Found, found, none, find, fieldsIn, under, bodyOf}
 use Rattle.format.proofs.Fields.{text-cases}
 use Rattle.format.proofs.Runs.{Reads, end, _⨾_}
 use Rattle.laws.proofs.Rows.{all-read}
 use Rattle.records.specs.Values.{values, bodyFrom}
-use Rattle.meanings.proofs.Codes.{event-code, category-code, status-code, class-code, tier-code, makerMode-code, participantState-code, action-code, tradingState-code, side-code, direction-code, cross-code, imbalance-code, qualifier-code, level-code, interest-code, flag-code, yesNo-code, authenticity-code, subtype-code, etp-code}
+use Rattle.meanings.proofs.Codes.{event-code, category-code, status-code, class-code, tier-code, makerMode-code, participantState-code, action-code, tradingState-code, side-code, direction-code, cross-code, imbalance-code, qualifier-code, level-code, interest-code, flag-code, etpFlag-code, yesNo-code, authenticity-code, subtype-code}
 
 -- what a field of a kind gives
-data Gives : Kind → List ℕ → Type 0 where
-  a-number : {w x : ℕ} → Gives (num w) (x ∷ [])
-  a-time : {x : ℕ} → Gives time (x ∷ [])
-  a-text : {w x : ℕ} → Gives (text w) (x ∷ [])
-  a-code : {set : List ℕ} {x : ℕ} → member x set ≡ true → Gives (code set) (x ∷ [])
-  an-etp : (x : ℕ) → member x etpFlag ≡ true → Gives etp (asYes x ∷ [])
-  a-subtype : {x : ℕ} → member x subtypes ≡ true → Gives subtype (x ∷ [])
-  nothing : Gives skip []
+data Gives : Kind → ℕ → Type 0 where
+  a-number : {w x : ℕ} → Gives (num w) x
+  a-time : {x : ℕ} → Gives time x
+  a-text : {w x : ℕ} → Gives (text w) x
+  a-code : {set : List ℕ} {x : ℕ} → member x set ≡ true → Gives (code set) x
+  a-subtype : {x : ℕ} → member x subtypes ≡ true → Gives subtype x
 
 -- the fields of a row
 data Row-gives : List Kind → List ℕ → Type 0 where
   none-left : Row-gives [] []
-  _&_ : {k : Kind} {ks : List Kind} {v vs : List ℕ} → Gives k v → Row-gives ks vs → Row-gives (k ∷ ks) (v ++ vs)
+  _&_ : {k : Kind} {ks : List Kind} {v : ℕ} {vs : List ℕ} → Gives k v → Row-gives ks vs → Row-gives (k ∷ ks) (v ∷ vs)
 
 infixr 30 _&_
 -- a field that is judged and has a value
 data Has (k : Kind) : Got → Type 0 where
-  value : {v : List ℕ} → Gives k v → Has k (got v)
+  value : {v : ℕ} → Gives k v → Has k (got v)
   not-there : Has k short
   bad : {n p : ℕ} → Has k (refused n p)
 
-tested : (k : Kind) (b : Bool) (v : List ℕ) (n at : ℕ) → (b ≡ true → Gives k v) → Has k (placed at (cond b (fine v) (wrong n 0)))
+tested : (k : Kind) (b : Bool) (v n at : ℕ) → (b ≡ true → Gives k v) → Has k (placed at (cond b (fine v) (wrong n 0)))
 tested k true v n at f = value (f refl)
 tested k false v n at f = bad
 
@@ -49,10 +47,8 @@ unfolding judge
 judged (num w) bs at = value a-number
 judged time bs at = value a-time
 judged (text w) bs at = text-cases (λ x. Has (text w) (placed at x)) w bs (λ _. value a-text) (λ _. bad)
-judged (code set) bs at = tested (code set) (member (be bs) set) (be bs ∷ []) 2 at a-code
-judged etp bs at = tested etp (member (be bs) etpFlag) (asYes (be bs) ∷ []) 2 at (an-etp (be bs))
-judged subtype bs at = tested subtype (member (be bs) subtypes) (be bs ∷ []) 2 at a-subtype
-judged skip bs at = value nothing
+judged (code set) bs at = tested (code set) (member (be bs) set) (be bs) 2 at a-code
+judged subtype bs at = tested subtype (member (be bs) subtypes) (be bs) 2 at a-subtype
 
 there : (k : Kind) (b : Bool) (g : Got) → Has k g → Has k (cond b g short)
 there k true g p = p
@@ -62,7 +58,7 @@ field-has : (k : Kind) (s : List ℕ) (at : ℕ) → Has k (field k s at)
 unfolding field
 field-has k s at = there k (leb (at + width k) (length s)) (placed at (judge k (part s at (width k)))) (judged k (part s at (width k)) at)
 
-gives : (k : Kind) (g : Got) (v : List ℕ) → Has k g → g ≡ got v → Gives k v
+gives : (k : Kind) (g : Got) (v : ℕ) → Has k g → g ≡ got v → Gives k v
 gives k _ v (value {v = u} p) e = let q : u ≡ v = cc in rw (sym q) p
 gives k _ v not-there e = let z : _≡_ {A = ℕ} 0 1 = cc in absurd (omega arith)
 gives k _ v bad e = let z : _≡_ {A = ℕ} 0 1 = cc in absurd (omega arith)
@@ -102,7 +98,7 @@ row-E _ (a-number & a-number & a-number & none-left) = refl
 
 row-H : SameValues 'H'
 unfolding bodyFrom
-row-H _ (a-text & a-code c & nothing & a-text & none-left) = simp (tradingState-code _ c)
+row-H _ (a-text & a-code c & a-number & a-text & none-left) = simp (tradingState-code _ c)
 
 row-I : SameValues 'I'
 unfolding bodyFrom
@@ -134,7 +130,7 @@ row-Q _ (a-number & a-text & a-number & a-number & a-code x & none-left) = simp 
 
 row-R : SameValues 'R'
 unfolding bodyFrom
-row-R _ (a-text & a-code c & a-code f & a-number & a-code y & a-code i & a-subtype u & a-code p & a-code h & a-code o & a-code l & an-etp z e & a-number & a-code v & none-left) = simp (category-code _ c, status-code _ f, yesNo-code _ y, class-code _ i, subtype-code _ u, authenticity-code _ p, flag-code _ h, flag-code _ o, tier-code _ l, etp-code z e, yesNo-code _ v)
+row-R _ (a-text & a-code c & a-code f & a-number & a-code y & a-code i & a-subtype u & a-code p & a-code h & a-code o & a-code l & a-code e & a-number & a-code v & none-left) = simp (category-code _ c, status-code _ f, yesNo-code _ y, class-code _ i, subtype-code _ u, authenticity-code _ p, flag-code _ h, flag-code _ o, tier-code _ l, etpFlag-code _ e, yesNo-code _ v)
 
 row-S : SameValues 'S'
 unfolding bodyFrom

@@ -8,32 +8,28 @@ use borrow.Author.Tests.{eqb-true}
 use lib.Dec.{T, eqb}
 use Rattle.format.specs.Ascii.{'Y', 'P'}
 use Rattle.format.specs.Codes.{event, category, status, class, tier, makerMode, participantState, action, tradingState, side, direction, cross, qualifier, level, interest, flag, imbalanceCross, yesNo, authenticity, etpFlag, subtypes}
-use Rattle.format.specs.Layout.{member, asYes}
+use Rattle.format.specs.Layout.{member}
 use Rattle.format.proofs.Tests.{both, is-true}
-use Rattle.codes.specs.Names.{eventByte, eventFrom, categoryByte, categoryFrom, statusByte, statusFrom, classByte, classFrom, tierByte, tierFrom, makerModeByte, makerModeFrom, participantStateByte, participantStateFrom, actionByte, actionFrom, tradingStateByte, tradingStateFrom, sideByte, sideFrom, directionByte, directionFrom, crossByte, crossFrom, qualifierByte, qualifierFrom, levelByte, levelFrom, interestByte, interestFrom, flagByte, flagFrom, yesNoByte, authenticityByte, subtypeByte, subtypeFrom}
+use Rattle.codes.specs.Names.{eventByte, eventFrom, categoryByte, categoryFrom, statusByte, statusFrom, classByte, classFrom, tierByte, tierFrom, makerModeByte, makerModeFrom, participantStateByte, participantStateFrom, actionByte, actionFrom, tradingStateByte, tradingStateFrom, sideByte, sideFrom, directionByte, directionFrom, crossByte, crossFrom, qualifierByte, qualifierFrom, levelByte, levelFrom, interestByte, interestFrom, flagByte, flagFrom, etpFlagByte, etpFlagFrom, yesNoByte, authenticityByte, subtypeByte, subtypeFrom}
 
--- f and g agree on a set
-abbrev agree : (ℕ → ℕ) → (ℕ → ℕ) → List ℕ → Bool
-agree f g [] = true
-agree f g (b ∷ bs) = eqb (f b) (g b) && agree f g bs
-
-on-set : (f g : ℕ → ℕ) (set : List ℕ) → T (agree f g set) → (x : ℕ) → member x set ≡ true → f x ≡ g x
-on-set f g [] t x m = absurd (false≢true m)
-on-set f g (b ∷ bs) t x m = go (eqb x b) refl m (on-set f g bs (h .1) x)
-  where
-    h : T (eqb (f b) (g b)) × T (agree f g bs)
-    h = both (eqb (f b) (g b)) (agree f g bs) t
-
-    go : (q : Bool) → eqb x b ≡ q → (q || member x bs) ≡ true → (member x bs ≡ true → f x ≡ g x) → f x ≡ g x
-    go true e n rest = let i : x ≡ b = eqb-true x b e in ap f i ∙ eqb-true (f b) (g b) (is-true (eqb (f b) (g b)) (h .0)) ∙ sym (ap g i)
-    go false e n rest = rest n
-
--- every code of the set has its name's byte
+-- every code of the set has its name's byte: a test over the set
 abbrev Named : (ℕ → ℕ) → List ℕ → Type 0
 Named f set = (x : ℕ) → member x set ≡ true → f x ≡ x
 
-named : (f : ℕ → ℕ) (set : List ℕ) → T (agree f (λ b. b) set) → Named f set
-named f set t = on-set f (λ b. b) set t
+abbrev fixes : (ℕ → ℕ) → List ℕ → Bool
+fixes f [] = true
+fixes f (b ∷ bs) = eqb (f b) b && fixes f bs
+
+named : (f : ℕ → ℕ) (set : List ℕ) → T (fixes f set) → Named f set
+named f [] t x m = absurd (false≢true m)
+named f (b ∷ bs) t x m = go (eqb x b) refl m (named f bs (h .1) x)
+  where
+    h : T (eqb (f b) b) × T (fixes f bs)
+    h = both (eqb (f b) b) (fixes f bs) t
+
+    go : (q : Bool) → eqb x b ≡ q → (q || member x bs) ≡ true → (member x bs ≡ true → f x ≡ x) → f x ≡ x
+    go true e n rest = let i : x ≡ b = eqb-true x b e in ap f i ∙ eqb-true (f b) b (is-true (eqb (f b) b) (h .0)) ∙ sym i
+    go false e n rest = rest n
 
 pub event-code : Named (λ b. eventByte (eventFrom b)) event
 unfolding eventFrom event
@@ -99,6 +95,10 @@ pub flag-code : Named (λ b. flagByte (flagFrom b)) flag
 unfolding flagFrom flag
 flag-code = named (λ b. flagByte (flagFrom b)) flag tt
 
+pub etpFlag-code : Named (λ b. etpFlagByte (etpFlagFrom b)) etpFlag
+unfolding etpFlagFrom etpFlag
+etpFlag-code = named (λ b. etpFlagByte (etpFlagFrom b)) etpFlag tt
+
 -- those of I are among the crosses
 pub imbalance-code : Named (λ b. crossByte (crossFrom b)) imbalanceCross
 unfolding crossFrom imbalanceCross
@@ -115,8 +115,3 @@ authenticity-code = named (λ b. authenticityByte (eqb b 'P')) authenticity tt
 pub subtype-code : Named (λ b. subtypeByte (subtypeFrom b)) subtypes
 unfolding subtypeByte subtypeFrom subtypes
 subtype-code = named (λ b. subtypeByte (subtypeFrom b)) subtypes tt
-
--- of the ETP codes M reads as yes
-pub etp-code : (x : ℕ) → member x etpFlag ≡ true → flagByte (flagFrom (asYes x)) ≡ asYes x
-unfolding flagFrom etpFlag
-etp-code = on-set (λ b. flagByte (flagFrom (asYes b))) asYes etpFlag tt

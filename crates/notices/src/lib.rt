@@ -30,7 +30,7 @@ pub fn parse_trading_action(s: &[u8]) -> BodyRead
         return BodyRead::No(format::no_u8(f2));
     };
     let f3 = format::be_u8(s, 22);
-    let Num8::Got(_) = f3 else {
+    let Num8::Got(reserved) = f3 else {
         return BodyRead::No(format::no_u8(f3));
     };
     let f4 = format::text4(s, 23);
@@ -41,6 +41,7 @@ pub fn parse_trading_action(s: &[u8]) -> BodyRead
         Body::TradingAction {
             stock,
             trading_state: codes::trading_state_of(trading_state),
+            reserved,
             reason,
         },
         tables::END_H,
@@ -219,7 +220,7 @@ pub fn parse_stock_directory(s: &[u8]) -> BodyRead
     let Num8::Got(luld_ref_price_tier) = f11 else {
         return BodyRead::No(format::no_u8(f11));
     };
-    let f12 = tables::etp_at(s, 35);
+    let f12 = tables::etp_flag_at(s, 35);
     let Num8::Got(etp_flag) = f12 else {
         return BodyRead::No(format::no_u8(f12));
     };
@@ -244,7 +245,7 @@ pub fn parse_stock_directory(s: &[u8]) -> BodyRead
             short_sale_threshold: codes::flag_of(short_sale_threshold),
             ipo_flag: codes::flag_of(ipo_flag),
             luld_ref_price_tier: codes::tier_of(luld_ref_price_tier),
-            etp_flag: codes::flag_of(etp_flag),
+            etp_flag: codes::etp_flag_of(etp_flag),
             etp_leverage_factor,
             inverse_indicator: codes::yes_no_of(inverse_indicator),
         }),

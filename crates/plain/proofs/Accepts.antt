@@ -11,7 +11,7 @@ use lib.Dec.{T, leb, eqb, eqb→eq}
 use lib.ListN.{length, getD}
 use lib.Seq.{ext-getD}
 use Rattle.format.specs.Codes.{side}
-use Rattle.format.specs.Layout.{Kind, num, time, text, code, etp, subtype, skip, widths, member, be, part, got, judge, field}
+use Rattle.format.specs.Layout.{Kind, num, time, text, code, subtype, widths, member, be, part, got, judge, field}
 use Rattle.format.specs.Rows.{Row, Found, found, none, find, window}
 use Rattle.format.specs.Rows as Rows
 use Rattle.format.specs.Utf8.{wellFormed}
@@ -42,13 +42,13 @@ record Order (s : List ℕ) : Type 0 where
   legal : member (getD s 21 0) side ≡ true
   formed : wellFormed (part s 26 8) ≡ true
 
-side-got : (s : List ℕ) → 22 ≤ length s → member (getD s 21 0) side ≡ true → field (code side) s 21 ≡ got (getD s 21 0 ∷ [])
+side-got : (s : List ℕ) → 22 ≤ length s → member (getD s 21 0) side ≡ true → field (code side) s 21 ≡ got (getD s 21 0)
 unfolding judge
 side-got s h m = field-judged (code side) s 21 h ∙ rw (be-one s 21 (omega arith), m)
 
 -- the two fields that are looked at, where they stand
 at-21 : (order : Bool) (set s : List ℕ) (at : ℕ) → T (order && (eqb at 21 && same set side)) → at + 1 ≤ length s → (T order → Order s)
-    → field (code set) s at ≡ got (getD s 21 0 ∷ [])
+    → field (code set) s at ≡ got (getD s 21 0)
 at-21 order set s at t h p =
     let a = both order (eqb at 21 && same set side) t in
     let b = both (eqb at 21) (same set side) (a .1) in
@@ -57,7 +57,7 @@ at-21 order set s at t h p =
     rw (i, e) (side-got s (omega arith) (p (a .0) .legal))
 
 at-26 : (order : Bool) (w : ℕ) (s : List ℕ) (at : ℕ) → T (order && (eqb at 26 && eqb w 8)) → at + w ≤ length s → (T order → Order s)
-    → field (text w) s at ≡ got (be (part s 26 8) ∷ [])
+    → field (text w) s at ≡ got (be (part s 26 8))
 at-26 order w s at t h p =
     let a = both order (eqb at 26 && eqb w 8) t in
     let b = both (eqb at 26) (eqb w 8) (a .1) in
@@ -81,9 +81,7 @@ light-reads order (code set ∷ ks) s at t h p =
     let q = both (order && (eqb at 21 && same set side)) (light order ks (at + 1)) t in
     let r = light-reads order ks s (at + 1) (q .1) (omega arith) p in
     (_, at-21 order set s at (q .0) (omega arith) p ⨾ r .1)
-light-reads order (etp ∷ ks) s at t h p = absurd t
 light-reads order (subtype ∷ ks) s at t h p = absurd t
-light-reads order (skip ∷ ks) s at t h p = absurd t
 
 -- a message in front that ends at n
 pub record Front (w : List ℕ) (n : ℕ) : Type 0 where

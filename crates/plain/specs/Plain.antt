@@ -9,7 +9,7 @@ use lib.Bits.{bitAnd}
 use lib.Dec.{leb, eqb}
 use lib.ListN.{length, getD}
 use Rattle.format.specs.Codes.{side}
-use Rattle.format.specs.Layout.{Kind, num, time, text, code, etp, subtype, skip, member, be, part}
+use Rattle.format.specs.Layout.{Kind, num, time, text, code, subtype, member, be, part}
 use Rattle.format.specs.Rows.{Found, found, none, find}
 use Rattle.format.specs.Rows as Rows
 
@@ -27,9 +27,7 @@ light order (num w ∷ ks) at = light order ks (at + w)
 light order (time ∷ ks) at = false
 light order (text w ∷ ks) at = (order && (eqb at 26 && eqb w 8)) && light order ks (at + w)
 light order (code set ∷ ks) at = (order && (eqb at 21 && same set side)) && light order ks (at + 1)
-light order (etp ∷ ks) at = false
 light order (subtype ∷ ks) at = false
-light order (skip ∷ ks) at = false
 
 -- for a tag, the place behind its message, with 256 for a body of numbers and 2^63 for an order's; zero for any other body
 abbrev pub ends : Found → ℕ

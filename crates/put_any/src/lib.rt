@@ -72,7 +72,8 @@ pub fn put_body(buf: &mut [u8], b: Body)
         Body::TradingAction {
             stock,
             trading_state,
+            reserved,
             reason,
-        } => put_bodies::put_trading_action(buf, stock, trading_state, reason),
+        } => put_bodies::put_trading_action(buf, stock, trading_state, reserved, reason),
     }
 }

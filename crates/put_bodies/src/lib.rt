@@ -90,12 +90,18 @@ pub fn put_order_executed(buf: &mut [u8], reference: u64, executed: u32, match_n
 }
 
 // Puts the body of H, a trading action.
-pub fn put_trading_action(buf: &mut [u8], stock: Text8, trading_state: TradingState, reason: Text4)
-    ensures { λ r. ⌜ PutBody (now (buf .entry)) (values (Body.TradingAction stock «trading_state» reason)) (now (buf .exit)) ⌝ }
+pub fn put_trading_action(
+    buf: &mut [u8],
+    stock: Text8,
+    trading_state: TradingState,
+    reserved: u8,
+    reason: Text4,
+)
+    ensures { λ r. ⌜ PutBody (now (buf .entry)) (values (Body.TradingAction stock «trading_state» reserved reason)) (now (buf .exit)) ⌝ }
 {
     pen::set_u64(buf, 13, stock);
     pen::set_u8(buf, 21, codes::trading_state_code(trading_state));
-    pen::set_u8(buf, 22, b' ');
+    pen::set_u8(buf, 22, reserved);
     pen::set_u32(buf, 23, reason);
 }
 
@@ -219,7 +225,7 @@ pub fn put_stock_directory(buf: &mut [u8], x: StockDirectory)
     pen::set_u8(buf, 32, codes::flag_code(short_sale_threshold));
     pen::set_u8(buf, 33, codes::flag_code(ipo_flag));
     pen::set_u8(buf, 34, codes::tier_code(luld_ref_price_tier));
-    pen::set_u8(buf, 35, codes::flag_code(etp_flag));
+    pen::set_u8(buf, 35, codes::etp_flag_code(etp_flag));
     pen::set_u32(buf, 36, x.etp_leverage_factor);
     pen::set_u8(buf, 40, codes::yes_no_code(x.inverse_indicator));
 }

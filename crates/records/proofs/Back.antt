@@ -1,7 +1,7 @@
 -- A body is determined by its values.
 -- Assumes nothing.
 use mathlib.Core.Path.{_≡_, refl}
-use Rattle.codes.proofs.Back.{action-back, authenticity-back, category-back, class-back, cross-back, direction-back, event-back, flag-back, interest-back, level-back, makerMode-back, participantState-back, qualifier-back, side-back, status-back, tier-back, tradingState-back, yesNo-back, subtype-back}
+use Rattle.codes.proofs.Back.{action-back, authenticity-back, category-back, class-back, cross-back, direction-back, etpFlag-back, event-back, flag-back, interest-back, level-back, makerMode-back, participantState-back, qualifier-back, side-back, status-back, tier-back, tradingState-back, yesNo-back, subtype-back}
 use Rattle.records.specs.declared.Mpid.{Mpid}
 use Rattle.records.specs.declared.Mpid.the-variants.{Absent, Present}
 use Rattle.records.specs.declared.AddOrder.{AddOrder}
@@ -33,6 +33,6 @@ body-back (Body·.ParticipantPosition x) = simp (yesNo-back, makerMode-back, par
 body-back (Body·.RegShoRestriction stock action) = simp action-back
 body-back (Body·.ReplaceOrder x) = refl
 body-back (Body·.RetailPriceImprovementIndicator x) = simp interest-back
-body-back (Body·.StockDirectory x) = simp (category-back, status-back, yesNo-back, class-back, subtype-back, authenticity-back, flag-back, tier-back)
+body-back (Body·.StockDirectory x) = simp (category-back, status-back, yesNo-back, class-back, subtype-back, authenticity-back, flag-back, tier-back, etpFlag-back)
 body-back (Body·.SystemEvent event) = simp event-back
-body-back (Body·.TradingAction stock trading-state reason) = simp tradingState-back
+body-back (Body·.TradingAction stock trading-state reserved reason) = simp tradingState-back

@@ -1,4 +1,4 @@
--- The values of a body, and the body of values: the tag, then what each kept field gives, in the order of its row.
+-- The values of a body, and the body of values: the tag, then what each field gives, in the order of its row.
 -- Assumes nothing.
 use Prim.Native.Nat.{ℕ}
 use mathlib.Core.Bool.{cond}
@@ -8,7 +8,7 @@ use lib.ListN.{getD}
 use Rattle.format.specs.Ascii.{'A', 'B', 'C', 'D', 'E', 'F', 'H', 'I', 'J', 'K', 'L', 'N', 'P', 'Q', 'R', 'S', 'U', 'V', 'W', 'X', 'Y'}
 use Rattle.format.specs.Layout.{Answer, accepted}
 use Rattle.format.specs.Meaning.{stopM}
-use Rattle.codes.specs.Names.{actionByte, authenticityByte, categoryByte, classByte, crossByte, directionByte, eventByte, flagByte, interestByte, levelByte, makerModeByte, participantStateByte, qualifierByte, sideByte, statusByte, tierByte, tradingStateByte, yesNoByte, actionFrom, categoryFrom, classFrom, crossFrom, directionFrom, eventFrom, flagFrom, interestFrom, levelFrom, makerModeFrom, participantStateFrom, qualifierFrom, sideFrom, statusFrom, tierFrom, tradingStateFrom, subtypeByte, subtypeFrom}
+use Rattle.codes.specs.Names.{actionByte, authenticityByte, categoryByte, classByte, crossByte, directionByte, etpFlagByte, eventByte, flagByte, interestByte, levelByte, makerModeByte, participantStateByte, qualifierByte, sideByte, statusByte, tierByte, tradingStateByte, yesNoByte, actionFrom, categoryFrom, classFrom, crossFrom, directionFrom, etpFlagFrom, eventFrom, flagFrom, interestFrom, levelFrom, makerModeFrom, participantStateFrom, qualifierFrom, sideFrom, statusFrom, tierFrom, tradingStateFrom, subtypeByte, subtypeFrom}
 use Rattle.records.specs.declared.Mpid.{Mpid}
 use Rattle.records.specs.declared.Mpid.the-variants.{Absent, Present}
 use Rattle.records.specs.declared.AddOrder.{AddOrder}
@@ -56,10 +56,10 @@ values (Body·.StockDirectory x) =
     'R' ∷ x .stock ∷ categoryByte (x .«market_category») ∷ statusByte (x .«financial_status») ∷ x .«round_lot_size»
     ∷ yesNoByte (x .«round_lots_only») ∷ classByte (x .«issue_classification») ∷ subtypeByte (x .«issue_subtype»)
     ∷ authenticityByte (x .authenticity) ∷ flagByte (x .«short_sale_threshold») ∷ flagByte (x .«ipo_flag»)
-    ∷ tierByte (x .«luld_ref_price_tier») ∷ flagByte (x .«etp_flag») ∷ x .«etp_leverage_factor»
+    ∷ tierByte (x .«luld_ref_price_tier») ∷ etpFlagByte (x .«etp_flag») ∷ x .«etp_leverage_factor»
     ∷ yesNoByte (x .«inverse_indicator») ∷ []
 values (Body·.SystemEvent event) = 'S' ∷ eventByte event ∷ []
-values (Body·.TradingAction stock trading-state reason) = 'H' ∷ stock ∷ tradingStateByte trading-state ∷ reason ∷ []
+values (Body·.TradingAction stock trading-state reserved reason) = 'H' ∷ stock ∷ tradingStateByte trading-state ∷ reserved ∷ reason ∷ []
 
 abbrev pub orderFrom : List ℕ → Mpid → AddOrder
 orderFrom v m = record {
@@ -139,7 +139,7 @@ stockDirectoryFrom v = record {
   «short_sale_threshold» = flagFrom (getD v 9 0);
   «ipo_flag» = flagFrom (getD v 10 0);
   «luld_ref_price_tier» = tierFrom (getD v 11 0);
-  «etp_flag» = flagFrom (getD v 12 0);
+  «etp_flag» = etpFlagFrom (getD v 12 0);
   «etp_leverage_factor» = getD v 13 0;
   «inverse_indicator» = eqb (getD v 14 0) 'Y';
 }
@@ -161,7 +161,7 @@ bodyFrom v =
     (cond (eqb (getD v 0 0) 'C') (Body·.OrderExecutedWithPrice (getD v 1 0) (getD v 2 0) (getD v 3 0) (eqb (getD v 4 0) 'Y') (getD v 5 0))
     (cond (eqb (getD v 0 0) 'D') (Body·.DeleteOrder (getD v 1 0))
     (cond (eqb (getD v 0 0) 'E') (Body·.OrderExecuted (getD v 1 0) (getD v 2 0) (getD v 3 0))
-    (cond (eqb (getD v 0 0) 'H') (Body·.TradingAction (getD v 1 0) (tradingStateFrom (getD v 2 0)) (getD v 3 0))
+    (cond (eqb (getD v 0 0) 'H') (Body·.TradingAction (getD v 1 0) (tradingStateFrom (getD v 2 0)) (getD v 3 0) (getD v 4 0))
     (cond (eqb (getD v 0 0) 'I') (Body·.Imbalance (imbalanceIndicatorFrom v))
     (cond (eqb (getD v 0 0) 'J') (Body·.LULDAuctionCollar (getD v 1 0) (getD v 2 0) (getD v 3 0) (getD v 4 0) (getD v 5 0))
     (cond (eqb (getD v 0 0) 'K') (Body·.IpoQuotingPeriod (ipoQuotingPeriodFrom v))

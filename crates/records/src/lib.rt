@@ -1,6 +1,7 @@
 // The messages: Message, Body with its 20 kinds, and their structs, named as in the Rust. A text is kept as the number that its bytes are, a price
 // as the raw number that it is on the wire.
 use codes::CrossType;
+use codes::EtpFlag;
 use codes::EventCode;
 use codes::FinancialStatus;
 use codes::Flag;
@@ -118,8 +119,7 @@ pub struct StockDirectory {
     pub short_sale_threshold: Flag,
     pub ipo_flag: Flag,
     pub luld_ref_price_tier: LuldRefPriceTier,
-    // of its codes M and Y are both yes
-    pub etp_flag: Flag,
+    pub etp_flag: EtpFlag,
     pub etp_leverage_factor: u32,
     pub inverse_indicator: bool,
 }
@@ -188,6 +188,8 @@ pub enum Body {
     TradingAction {
         stock: Text8,
         trading_state: TradingState,
+        // any byte: it is not judged
+        reserved: u8,
         reason: Text4,
     },
 }

@@ -558,7 +558,7 @@ fn go(raw: bool, words: Words) {
         OrderExecuted\treference={n}\texecuted={n}\tmatch_number={n}\n{.\
         AddOrder\treference={n}\tside={B=Buy,S=Sell,}\tshares={n}\tstock={8}\tprice={n}\tmpid=Some({4})\n{.\
         {.\
-        TradingAction\tstock={8}\ttrading_state={H=Halted,P=Paused,Q=QuotationOnly,T=Trading,}\treason={4}\n{.\
+        TradingAction\tstock={8}\ttrading_state={H=Halted,P=Paused,Q=QuotationOnly,T=Trading,}\treserved={1}\treason={4}\n{.\
         Imbalance\tpaired_shares={n}\timbalance_shares={n}\timbalance_direction={B=Buy,S=Sell,N=NoImbalance,O=InsufficientOrders,}\tstock={8}\
             \tfar_price={n}\tnear_price={n}\tcurrent_ref_price={n}\tcross_type={O=Opening,C=Closing,H=IpoOrHalted,I=Intraday,A=ExtendedTradingClose,}\
             \tprice_variation_indicator={1}\n{.\
@@ -591,7 +591,7 @@ fn go(raw: bool, words: Words) {
             SI=SpotRateIntraday,T =TrackingStock,TC=TrustCertificates,TU=TrustUnits,U =Portal,V =ContingentValueRight,W =TrustIssuedReceipts,\
             WC=WorldCurrencyOption,X =Trust,Y =Other,Z =NotApplicable,}\tauthenticity={P=true,T=false,}\tshort_sale_threshold={Y=Some(true),\
             N=Some(false), =None,}\tipo_flag={Y=Some(true),N=Some(false), =None,}\tluld_ref_price_tier={1=Tier1,2=Tier2, =Na,}\
-            \tetp_flag={Y=Some(true),N=Some(false), =None,}\tetp_leverage_factor={n}\tinverse_indicator={Y=true,N=false,}\n{.\
+            \tetp_flag={Y=Some(true),N=Some(false),M=M, =None,}\tetp_leverage_factor={n}\tinverse_indicator={Y=true,N=false,}\n{.\
         SystemEvent\tevent={O=StartOfMessages,S=StartOfSystemHours,Q=StartOfMarketHours,M=EndOfMarketHours,E=EndOfSystemHours,C=EndOfMessages,}\
             \n{.\
         {.\

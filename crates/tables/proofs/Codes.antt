@@ -10,8 +10,7 @@ use native.Mathlib.Omega.{arith}
 use lib.Dec.{T, eqb}
 use types.Run.{OneOf}
 use borrow.Author.Tests.{eqb-true, eqb-false}
-use Rattle.format.specs.Codes.{etpFlag}
-use Rattle.format.specs.Layout.{Kind, num, code, etp, width, member, asYes, Got, fine, wrong, judge, placed, field}
+use Rattle.format.specs.Layout.{Kind, num, code, width, member, Got, fine, wrong, judge, placed, field}
 use Rattle.format.specs.Meaning.{num8M}
 use Rattle.format.specs.declared.Fault.{Fault}
 use Rattle.format.specs.declared.Num8.{Num8}
@@ -51,20 +50,11 @@ in-range set lo (suc n) b t l h = go (eqb b lo) refl (in-range set (lo + 1) n b 
 pub code-short : (k : Kind) (s : List ℕ) (at : ℕ) {f : Num8} {e : Fault} → width k ≡ 1 → num8M f ≡ field (num 1) s at → f ≡ No8 e → num8M f ≡ field k s at
 code-short k s at {f} {e} w p q = ap num8M q ∙ sym (one-short k s at e w (sym p ∙ ap num8M q))
 
-judged-code : (set : List ℕ) (b : ℕ) → judge (code set) (b ∷ []) ≡ cond (member b set) (fine (b ∷ [])) (wrong 2 0)
+judged-code : (set : List ℕ) (b : ℕ) → judge (code set) (b ∷ []) ≡ cond (member b set) (fine b) (wrong 2 0)
 unfolding judge
 judged-code set b = rw zero-add
 
 pub code-got : (set s : List ℕ) (at : ℕ) {f : Num8} {g : Got} {b : ℕ} {t : Bool} → num8M f ≡ field (num 1) s at → f ≡ Got8 b → t ≡ member b set
-    → g ≡ placed at (cond t (fine (b ∷ [])) (wrong 2 0)) → g ≡ field (code set) s at
+    → g ≡ placed at (cond t (fine b) (wrong 2 0)) → g ≡ field (code set) s at
 code-got set s at {b = b} p q l j =
     j ∙ rw l (ap (placed at) (sym (judged-code set b))) ∙ sym (one-byte (code set) s at refl (sym p ∙ ap num8M q))
-
-judged-etp : (b : ℕ) → judge etp (b ∷ []) ≡ cond (member b etpFlag) (fine (asYes b ∷ [])) (wrong 2 0)
-unfolding judge
-judged-etp b = rw zero-add
-
-pub etp-got : (s : List ℕ) (at : ℕ) {f : Num8} {g : Got} {b y : ℕ} {t : Bool} → num8M f ≡ field (num 1) s at → f ≡ Got8 b → y ≡ asYes b → t ≡ member b etpFlag
-    → g ≡ placed at (cond t (fine (y ∷ [])) (wrong 2 0)) → g ≡ field etp s at
-etp-got s at {b = b} p q a l j =
-    j ∙ rw (l, a) (ap (placed at) (sym (judged-etp b))) ∙ sym (one-byte etp s at refl (sym p ∙ ap num8M q))

@@ -6,10 +6,9 @@
 // A table that is indexed where it is used is built anew on the stack at each use, so what is likely is decided by constants that are computed
 // from the tables when the program is compiled, and only a byte that is no code of its set is looked up. The tables stay the one source.
 ghost use mathlib.Core.Path.{_≡_};
-ghost use mathlib.Core.List.{[], _∷_};
 ghost use mathlib.Core.Bool.{cond};
 ghost use Rattle.format.specs.Codes.{side, yesNo, tradingState, direction, imbalanceCross, qualifier, makerMode, participantState, interest, cross, category, status, class, authenticity, flag, tier, etpFlag, event, level, action};
-ghost use Rattle.format.specs.Layout.{member, asYes, code, etp, field, placed, fine, wrong};
+ghost use Rattle.format.specs.Layout.{member, code, field, placed, fine, wrong};
 ghost use Rattle.format.specs.Rows.{sizeOf};
 ghost use Rattle.format.specs.Meaning.{num8M};
 ghost use Rattle.tables.specs.Masks.{maskOf, Legal};
@@ -108,7 +107,7 @@ fn legal(b: u8, bit: u32) -> bool
 
 // The answer of a leaf that read a code: the value v where the byte was legal, else 2 with the place.
 fn judged(v: u8, place: u8, legal: bool) -> Num8
-    ensures { λ r. ⌜ num8M r ≡ placed place (cond legal (fine (v ∷ [])) (wrong 2 0)) ⌝ }
+    ensures { λ r. ⌜ num8M r ≡ placed place (cond legal (fine v) (wrong 2 0)) ⌝ }
 {
     if legal {
         Num8::Got(v)
@@ -578,7 +577,7 @@ const ETP_FLAG_ARMS: bool = MASKS[b'Y' as usize]
     & masks::ETP_FLAG
     != 0;
 
-fn is_etp(b: u8) -> bool
+fn is_etp_flag(b: u8) -> bool
     ensures { λ r. ⌜ r ≡ member b etpFlag ⌝ }
 {
     match b {
@@ -587,22 +586,15 @@ fn is_etp(b: u8) -> bool
     }
 }
 
-// M as Y; any other byte as itself.
-fn as_yes(b: u8) -> u8
-    ensures { λ r. ⌜ r ≡ asYes b ⌝ }
-{
-    if b == b'M' { b'Y' } else { b }
-}
-
-// The ETP flag at a place: Y, N, space or M, and M is given as Y; else 2.
-pub fn etp_at(s: &[u8], place: u8) -> Num8
-    ensures { λ r. ⌜ num8M r ≡ field etp (now (s .entry)) place ⌝ }
+// The ETP flag at a place: Y, N, space or M; else 2.
+pub fn etp_flag_at(s: &[u8], place: u8) -> Num8
+    ensures { λ r. ⌜ num8M r ≡ field (code etpFlag) (now (s .entry)) place ⌝ }
 {
     let f = format::be_u8(s, place);
     let Num8::Got(b) = f else {
         return f;
     };
-    judged(as_yes(b), place, is_etp(b))
+    judged(b, place, is_etp_flag(b))
 }
 
 const EVENT_ARMS: bool = MASKS[b'O' as usize]

@@ -3,7 +3,7 @@
 use mathlib.Core.Path.{_≡_, sym, ap, _∙_, subst}
 use mathlib.Core.List.{List}
 use Prim.Native.Nat.{ℕ}
-use lib.ListN.{length}
+use lib.ListN.{length, drop}
 use Rattle.format.specs.Rows.{window}
 use Rattle.format.proofs.Bytes.{Bytes}
 use Rattle.records.specs.declared.Message.{Message}
@@ -36,12 +36,13 @@ read-then-write s t x m k {u} {w} b p y q a =
     let v : u ≡ writtenIn m t = a ∙ ap (λ z. bufferAfter z m t) q in (
       ap Wrote q ∙ ap (λ z. againOf z t) (sym o),
       v ∙ ap (λ z. againIn z t) (sym o),
-      λ m′ n e l f.
+      λ m′ n e l.
           let z : Accepted m k ≡ Accepted m′ n = sym o ∙ e in
           let i : m ≡ m′ = cc in
-          let g = written-back s m′ n t b (ap windowM (sym e ∙ sym (exactly s x p)) ∙ p) l f in
+          let g = written-back s m′ n t b (ap windowM (sym e ∙ sym (exactly s x p)) ∙ p) l in
           let d = q ∙ ap (λ v. writtenOf v (length t)) i ∙ g .0 in
-          (ap Wrote d, a ∙ ap (λ v. bufferAfter v m t) d ∙ ap (λ v. bufferAfter (Done n) v t) i ∙ g .1),
+          let h = a ∙ ap (λ v. bufferAfter v m t) d ∙ ap (λ v. bufferAfter (Done n) v t) i in
+          (ap Wrote d, ap (drop 2) h ∙ g .1, λ f. h ∙ g .2 f),
     )
 
 -- where the reader's answer x is no message, nothing is written
@@ -49,4 +50,4 @@ pub read-no-more : (s t : List ℕ) (x y : Window) (r : Again) → windowM x ≡
     → ((m : Message) (n : ℕ) → y ≡ Accepted m n → ⊥) → (r ≡ againOf (windowOf s) t) × (t ≡ againIn (windowOf s) t) × WrittenBack s t r t
 read-no-more s t x y r p d e f no-message =
     let o : y ≡ windowOf s = sym d ∙ exactly s x p in
-    (e ∙ ap (λ z. againOf z t) o, f ∙ ap (λ z. againIn z t) o, λ m n g l h. absurd (no-message m n (o ∙ g)))
+    (e ∙ ap (λ z. againOf z t) o, f ∙ ap (λ z. againIn z t) o, λ m n g l. absurd (no-message m n (o ∙ g)))

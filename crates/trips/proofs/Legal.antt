@@ -11,13 +11,12 @@ use lib.Seq.{getD-drop}
 use borrow.Author.Tests.{eqb-true}
 use Rattle.format.specs.Ascii.{'I'}
 use Rattle.format.specs.Codes.{side, yesNo, tradingState, direction, imbalanceCross, qualifier, makerMode, participantState, interest, cross, category, status, class, authenticity, flag, tier, event, level, action, etpFlag, subtypes}
-use Rattle.format.specs.Layout.{etp, member}
+use Rattle.format.specs.Layout.{member}
 use Rattle.format.proofs.Tests.{and-split}
 use Rattle.pen.specs.Encode.{layout}
-use Rattle.codes.specs.Names.{nameOf, eventByte, eventNames, eventFrom, categoryByte, categoryNames, categoryFrom, statusByte, statusNames, statusFrom, classByte, classNames, classFrom, tierByte, tierNames, tierFrom, makerModeByte, makerModeNames, makerModeFrom, participantStateByte, participantStateNames, participantStateFrom, actionByte, actionNames, actionFrom, tradingStateByte, tradingStateNames, tradingStateFrom, sideByte, sideNames, sideFrom, directionByte, directionNames, directionFrom, crossByte, crossNames, crossFrom, qualifierByte, qualifierNames, qualifierFrom, levelByte, levelNames, levelFrom, interestByte, interestNames, interestFrom, flagByte, flagNames, flagFrom, subtypeByte, subtypeNames, subtypeFrom, yesNoByte, authenticityByte}
+use Rattle.codes.specs.Names.{nameOf, eventByte, eventNames, eventFrom, categoryByte, categoryNames, categoryFrom, statusByte, statusNames, statusFrom, classByte, classNames, classFrom, tierByte, tierNames, tierFrom, makerModeByte, makerModeNames, makerModeFrom, participantStateByte, participantStateNames, participantStateFrom, actionByte, actionNames, actionFrom, tradingStateByte, tradingStateNames, tradingStateFrom, sideByte, sideNames, sideFrom, directionByte, directionNames, directionFrom, crossByte, crossNames, crossFrom, qualifierByte, qualifierNames, qualifierFrom, levelByte, levelNames, levelFrom, interestByte, interestNames, interestFrom, flagByte, flagNames, flagFrom, etpFlagByte, etpFlagNames, etpFlagFrom, subtypeByte, subtypeNames, subtypeFrom, yesNoByte, authenticityByte}
 use Rattle.codes.specs.declared.trade.CrossType.{CrossType}
-use Rattle.codes.specs.declared.stock.Flag.{Flag}
-use Rattle.codes.proofs.Back.{pass, all-pass, event-back, category-back, status-back, class-back, tier-back, makerMode-back, participantState-back, action-back, tradingState-back, side-back, direction-back, cross-back, qualifier-back, level-back, interest-back, flag-back, subtype-back}
+use Rattle.codes.proofs.Back.{pass, all-pass, event-back, category-back, status-back, class-back, tier-back, makerMode-back, participantState-back, action-back, tradingState-back, side-back, direction-back, cross-back, qualifier-back, level-back, interest-back, flag-back, etpFlag-back, subtype-back}
 use Rattle.records.specs.declared.Mpid.{Mpid}
 use Rattle.records.specs.declared.Mpid.the-variants.{Absent, Present}
 use Rattle.records.specs.declared.AddOrder.{AddOrder}
@@ -25,8 +24,8 @@ use Rattle.records.specs.declared.Body.{Body}
 use Rattle.records.specs.declared.Body.the-variants as Body·
 use Rattle.records.specs.Values.{orderValues, values}
 use Rattle.writer.specs.Writing.{tagOf, fieldsOf, intraday}
-use Rattle.writer.proofs.Says.{count, body-count}
-use Rattle.trips.proofs.Fields.{codeFine, codesFine}
+use Rattle.writer.proofs.Says.{body-count}
+use Rattle.trips.proofs.Fields.{codesFine}
 
 -- every name's byte is a code of the set: a test over the names
 abbrev Legal : {A : Type 0} → (A → ℕ) → List ℕ → Type 0
@@ -100,6 +99,10 @@ flag-legal : Legal flagByte flag
 unfolding flagFrom flag
 flag-legal = legal flagByte flagNames _ flag flag-back tt
 
+etpFlag-legal : Legal etpFlagByte etpFlag
+unfolding etpFlagFrom etpFlag
+etpFlag-legal = legal etpFlagByte etpFlagNames _ etpFlag etpFlag-back tt
+
 subtype-legal : Legal subtypeByte subtypes
 unfolding subtypeByte subtypeFrom subtypes
 subtype-legal = legal subtypeByte subtypeNames _ subtypes subtype-back tt
@@ -113,10 +116,6 @@ authenticity-legal : Legal authenticityByte authenticity
 unfolding authenticity
 authenticity-legal true = refl
 authenticity-legal false = refl
-
-etp-legal : (x : Flag) → codeFine etp (flagByte x) ≡ true
-unfolding flagFrom etpFlag
-etp-legal = all-pass (codeFine etp) flagByte flagNames _ flag-back tt
 
 -- in an imbalance record all crosses but Intraday are legal, and Intraday is not
 imbalance-legal : (x : CrossType) → eqb (crossByte x) 'I' ≡ false → member (crossByte x) imbalanceCross ≡ true
@@ -168,11 +167,11 @@ codes (Body·.StockDirectory x) h =
       flag-legal (x .«short_sale_threshold»),
       flag-legal (x .«ipo_flag»),
       tier-legal (x .«luld_ref_price_tier»),
-      etp-legal (x .«etp_flag»),
+      etpFlag-legal (x .«etp_flag»),
       yesNo-legal (x .«inverse_indicator»),
     )
 codes (Body·.SystemEvent event) h = rw (event-legal event)
-codes (Body·.TradingAction stock trading-state reason) h = rw (tradingState-legal trading-state)
+codes (Body·.TradingAction stock trading-state reserved reason) h = rw (tradingState-legal trading-state)
 
 -- values with legal codes are no imbalance record with the cross Intraday
 pub no-intraday : (vs : List ℕ) → codesFine (layout (getD vs 0 0)) (drop 1 vs) ≡ true → intraday vs ≡ false
@@ -190,10 +189,10 @@ no-intraday vs h = go (eqb (getD vs 0 0) 'I') refl
         rw c at (not-intraday (getD us 0 0) (and-split i true (and-split d (i && true) q .1) .0))
     go false e = refl
 
--- a body's values are its tag and its fields, one for each field of its row that is kept
+-- a body's values are its tag and its fields, one for each field of its row
 head-tail : (vs : List ℕ) (n : ℕ) → length vs ≡ 1 + n → (getD vs 0 0 ∷ drop 1 vs ≡ vs) × (length (drop 1 vs) ≡ n)
 head-tail [] n h = absurd (omega arith)
 head-tail (v ∷ vs) n h = (refl, omega arith)
 
-pub whole : (b : Body) → (tagOf b ∷ fieldsOf b ≡ values b) × (length (fieldsOf b) ≡ count (layout (tagOf b)))
-whole b = head-tail (values b) (count (layout (tagOf b))) (body-count b)
+pub whole : (b : Body) → (tagOf b ∷ fieldsOf b ≡ values b) × (length (fieldsOf b) ≡ length (layout (tagOf b)))
+whole b = head-tail (values b) (length (layout (tagOf b))) (body-count b)

@@ -1,17 +1,13 @@
--- Writing what was read gives the consumed bytes, unless the length differed, H's reserved byte was no space or the ETP flag was M.
+-- Writing what was read gives the consumed bytes, unless the length differed: then it gives them but for the length.
 -- Assumes nothing.
 use mathlib.Core.Path.{_≡_, refl, sym, ap, _∙_, subst}
 use mathlib.Core.List.{List, [], _∷_, _++_, append-assoc}
-use mathlib.Core.Bool.{cond}
 use mathlib.Core.Logic.{⊎-elim}
 use native.Mathlib.Omega.{arith}
 use Prim.Native.Nat.{ℕ, _+_, _^_, _≤_, _<_}
-use lib.Dec.{eqb}
 use lib.ListN.{length, getD, drop, take}
-use lib.Seq.{drop-cons}
-use borrow.Author.Tests.{ne-eqb}
-use Rattle.format.specs.Ascii.{'␣', 'H', 'M', 'R', 'Y'}
-use Rattle.format.specs.Layout.{time, etp, skip, widths, be, part, judge, accepted}
+use lib.Seq.{drop-append-seam}
+use Rattle.format.specs.Layout.{time, widths, be, part, judge, accepted}
 use Rattle.format.specs.Rows.{rows, Found, found, none, find, fieldsIn, under, header, sizeOf, bodyOf, window}
 use Rattle.format.proofs.Tests.{le-or-lt}
 use Rattle.format.proofs.Bytes.{Bytes, be-below, be-one, part-split}
@@ -21,20 +17,16 @@ use Rattle.format.proofs.Windows.{window-there, window-cut}
 use Rattle.laws.proofs.Rows.{all-read}
 use Rattle.laws.proofs.Window.{pre-accepted, window-covers}
 use Rattle.pen.specs.Encode.{digits, write, layout}
-use Rattle.records.specs.declared.Mpid.{Mpid}
-use Rattle.records.specs.declared.Mpid.the-variants.{Absent, Present}
-use Rattle.records.specs.declared.AddOrder.{AddOrder}
-use Rattle.records.specs.declared.Body.{Body}
-use Rattle.records.specs.declared.Body.the-variants as Body·
+use Rattle.pen.proofs.Digits.{length-digits}
 use Rattle.records.specs.declared.Message.{Message}
-use Rattle.records.specs.Values.{orderValues, values}
+use Rattle.records.specs.Values.{values}
 use Rattle.reader.specs.declared.Window.the-variants.{Message as Accepted}
 use Rattle.reader.specs.Window.{messageValues, windowM}
 use Rattle.writer.specs.declared.Written.the-variants.{Done}
 use Rattle.writer.specs.Writing.{tagOf, fieldsOf, textsOf, headOf, encode, writtenOf, bufferAfter}
 use Rattle.writer.proofs.Says.{body-size, says-done}
-use Rattle.trips.specs.Exceptions.{Regular}
-use Rattle.trips.proofs.Fields.{tidy, tidyRow, digits-be, took-row, parts, parts-row}
+use Rattle.trips.specs.Trips.{Regular}
+use Rattle.trips.proofs.Fields.{digits-be, took-row}
 use Rattle.trips.proofs.Legal.{no-intraday}
 
 -- an accepted message, field by field
@@ -94,84 +86,47 @@ head-reads s h =
 
 head-bytes : (s : List ℕ) (m : Message) → Bytes s → Opened s m → write (drop 1 header) (drop 1 (headOf m)) ≡ part s 2 11
 head-bytes s m b o =
-    rw (o .tag, o .locate, o .tracking, o .stamp) (took-row (head-reads s (o .long)) b .0 ∙ parts-row (drop 1 header) s 2)
+    rw (o .tag, o .locate, o .tracking, o .stamp) (took-row (head-reads s (o .long)) b .0)
 
--- what was read is written where the buffer holds it, as the size and the consumed bytes behind the length, tidied
+-- what was read is written where the buffer holds it: the size, and behind it the bytes that were read behind the length
 written-again : (s : List ℕ) (m : Message) (n room : ℕ) → Bytes s → windowM (Accepted m n) ≡ window s → n ≤ room
-    → (writtenOf m room ≡ Done n) × (encode m ≡ digits 2 (sizeOf (m .tag)) ++ (part s 2 11 ++ tidyRow (layout (m .tag)) s 13))
+    → (writtenOf m room ≡ Done n) × (encode m ≡ digits 2 (sizeOf (m .tag)) ++ part s 2 (sizeOf (m .tag)))
 unfolding encode textsOf
 written-again s m n room b e l =
     let o = opened s m n (sym e) in
     let c : n ≡ 2 + sizeOf (m .tag) = window-covers s (messageValues m) n (sym e) .0 in
     let t = took-row (o .fields) b in
     let y : be (part s 7 6) < 256 ^ 6 = be-below s 7 6 b (omega (arith, o .long)) in
-    let k : write (layout (m .tag)) (fieldsOf (m .body)) ≡ tidyRow (layout (m .tag)) s 13 = rw (o .agrees) (t .0) in (
+    let z : ℕ = widths (layout (m .tag)) in
+    let x : sizeOf (m .tag) ≡ 11 + z = ap sizeOf (o .agrees) ∙ body-size (m .body) ∙ ap (λ k. 11 + widths (layout k)) (sym (o .agrees)) in
+    let d : List ℕ = digits 2 (sizeOf (m .tag)) in
+    let f : List ℕ = write (layout (m .tag)) (fieldsOf (m .body)) in
+    let k : f ≡ part s 13 z = rw (o .agrees) (t .0) in (
       sym (says-done m room (o .agrees) (omega (arith, o .stamp)) (t .1) (no-intraday (values (m .body)) (t .2)) (omega arith)) ∙ ap Done (sym c),
-      append-assoc (digits 2 (sizeOf (m .tag))) (write (drop 1 header) (drop 1 (headOf m))) (write (layout (m .tag)) (fieldsOf (m .body)))
-          ∙ ap (λ xs. digits 2 (sizeOf (m .tag)) ++ (xs ++ write (layout (m .tag)) (fieldsOf (m .body)))) (head-bytes s m b o)
-          ∙ ap (λ xs. digits 2 (sizeOf (m .tag)) ++ (part s 2 11 ++ xs)) k,
+      append-assoc d (write (drop 1 header) (drop 1 (headOf m))) f ∙ ap (λ xs. d ++ (xs ++ f)) (head-bytes s m b o) ∙ ap (λ xs. d ++ (part s 2 11 ++ xs)) k
+          ∙ ap (λ xs. d ++ xs) (sym (part-split s 2 11 z) ∙ ap (part s 2) (sym x)),
     )
 
--- only H has a byte that is not kept, at 22, and only R an ETP flag, at 35: the tidied bytes are the bytes where these two are
-order-tidy : (a : AddOrder) (p : Mpid) (s : List ℕ) → tidyRow (layout (getD (orderValues a p) 0 0)) s 13 ≡ parts (layout (getD (orderValues a p) 0 0)) s 13
-unfolding layout
-order-tidy a Absent s = refl
-order-tidy a (Present v) s = refl
+behind : (p q : List ℕ) → length p ≡ 2 → drop 2 (p ++ q) ≡ q
+behind p q h = ap (λ k. drop k (p ++ q)) (sym h) ∙ drop-append-seam p q
 
-body-tidy : (b : Body) (s : List ℕ) → (tagOf b ≡ 'H' → tidy skip (part s 22 1) ≡ part s 22 1) → (tagOf b ≡ 'R' → tidy etp (part s 35 1) ≡ part s 35 1)
-    → tidyRow (layout (tagOf b)) s 13 ≡ parts (layout (tagOf b)) s 13
-unfolding layout
-body-tidy (Body·.AddOrder x) s reserved flag = order-tidy x (x .mpid) s
-body-tidy (Body·.Breach x) s reserved flag = refl
-body-tidy (Body·.BrokenTrade match-number) s reserved flag = refl
-body-tidy (Body·.CrossTrade x) s reserved flag = refl
-body-tidy (Body·.DeleteOrder reference) s reserved flag = refl
-body-tidy (Body·.Imbalance x) s reserved flag = refl
-body-tidy (Body·.IpoQuotingPeriod x) s reserved flag = refl
-body-tidy (Body·.LULDAuctionCollar stock ref-price upper-price lower-price extension) s reserved flag = refl
-body-tidy (Body·.MwcbDeclineLevel level1 level2 level3) s reserved flag = refl
-body-tidy (Body·.NonCrossTrade x) s reserved flag = refl
-body-tidy (Body·.OrderCancelled reference cancelled) s reserved flag = refl
-body-tidy (Body·.OrderExecuted reference executed match-number) s reserved flag = refl
-body-tidy (Body·.OrderExecutedWithPrice reference executed match-number printable price) s reserved flag = refl
-body-tidy (Body·.ParticipantPosition x) s reserved flag = refl
-body-tidy (Body·.RegShoRestriction stock action) s reserved flag = refl
-body-tidy (Body·.ReplaceOrder x) s reserved flag = refl
-body-tidy (Body·.RetailPriceImprovementIndicator x) s reserved flag = refl
-body-tidy (Body·.StockDirectory x) s reserved flag = rw (flag refl)
-body-tidy (Body·.SystemEvent event) s reserved flag = refl
-body-tidy (Body·.TradingAction stock trading-state reason) s reserved flag = ap (λ bs. part s 13 8 ++ (part s 21 1 ++ (bs ++ (part s 23 4 ++ [])))) (reserved refl)
-
-one-byte : (s : List ℕ) (at : ℕ) → at < length s → part s at 1 ≡ getD s at 0 ∷ []
-one-byte s at l = rw (drop-cons s at 0)
-
-space-tidy : (s : List ℕ) (at : ℕ) → at < length s → getD s at 0 ≡ '␣' → tidy skip (part s at 1) ≡ part s at 1
-space-tidy s at l q = ap (λ x. x ∷ []) (sym q) ∙ sym (one-byte s at l)
-
-flag-tidy : (s : List ℕ) (at : ℕ) → at < length s → (getD s at 0 ≡ 'M' → ⊥) → tidy etp (part s at 1) ≡ part s at 1
-flag-tidy s at l q = ap (λ x. cond (eqb x 'M') ('Y' ∷ []) (part s at 1)) (be-one s at l) ∙ ap (λ x. cond x ('Y' ∷ []) (part s at 1)) (ne-eqb _ _ q)
-
--- writing what was read gives the consumed bytes, and later bytes stay, unless the length differed, H's reserved byte was no space or ETP was M
+-- writing what was read gives the consumed bytes, and later bytes stay: behind the length field always, and from it on unless it differed
 pub written-back : (s : List ℕ) (m : Message) (n : ℕ) (t : List ℕ) → Bytes s → windowM (Accepted m n) ≡ window s → n ≤ length t
-    → Regular s m → (writtenOf m (length t) ≡ Done n) × (bufferAfter (Done n) m t ≡ take n s ++ drop n t)
-unfolding bufferAfter sizeOf
-written-back s m n t b e l f =
+    → (writtenOf m (length t) ≡ Done n) × (drop 2 (bufferAfter (Done n) m t) ≡ drop 2 (take n s ++ drop n t))
+    × (Regular s m → bufferAfter (Done n) m t ≡ take n s ++ drop n t)
+unfolding bufferAfter
+written-back s m n t b e l =
     let o = opened s m n (sym e) in
-    let c = window-covers s (messageValues m) n (sym e) in
+    let c : n ≡ 2 + sizeOf (m .tag) = window-covers s (messageValues m) n (sym e) .0 in
     let w = written-again s m n (length t) b e l in
-    let h : tagOf (m .body) ≡ 'H' → tidy skip (part s 22 1) ≡ part s 22 1 =
-    λ q. space-tidy s 22 (omega (arith, c .0, c .1, ap sizeOf (o .agrees ∙ q))) (f .1 (o .agrees ∙ q)) in
-    let r : tagOf (m .body) ≡ 'R' → tidy etp (part s 35 1) ≡ part s 35 1 =
-    λ q. flag-tidy s 35 (omega (arith, c .0, c .1, ap sizeOf (o .agrees ∙ q))) (f .2 (o .agrees ∙ q)) in
-    let g : tidyRow (layout (m .tag)) s 13 ≡ parts (layout (m .tag)) s 13 = rw (o .agrees) (body-tidy (m .body) s h r) in
-    let z : ℕ = widths (layout (m .tag)) in
-    let y : sizeOf (m .tag) ≡ 11 + z = ap sizeOf (o .agrees) ∙ body-size (m .body) ∙ ap (λ k. 11 + widths (layout k)) (sym (o .agrees)) in
-    let x : 2 + (11 + z) ≡ n = omega (arith, c .0) in
-    let a : digits 2 (sizeOf (m .tag)) ≡ part s 0 2 = ap (digits 2) (sym (f .0)) ∙ digits-be s 0 2 b (omega (arith, o .long)) in
-    let p : part s 2 (11 + z) ≡ part s 2 11 ++ part s 13 z = part-split s 2 11 z in (
+    let d : List ℕ = digits 2 (sizeOf (m .tag)) in
+    let p : List ℕ = part s 2 (sizeOf (m .tag)) in
+    let a : digits 2 (be (part s 0 2)) ≡ part s 0 2 = digits-be s 0 2 b (omega (arith, o .long)) in
+    let u : encode m ++ drop n t ≡ d ++ (p ++ drop n t) = ap (λ xs. xs ++ drop n t) (w .1) ∙ append-assoc d p (drop n t) in
+    let v : take n s ++ drop n t ≡ part s 0 2 ++ (p ++ drop n t) =
+    ap (λ k. take k s ++ drop n t) c ∙ ap (λ xs. xs ++ drop n t) (part-split s 0 2 (sizeOf (m .tag))) ∙ append-assoc (part s 0 2) p (drop n t) in (
       w .0,
-      ap (λ xs. xs ++ drop n t)
-          (w .1 ∙ ap (λ xs. xs ++ (part s 2 11 ++ tidyRow (layout (m .tag)) s 13)) a
-          ∙ ap (λ xs. part s 0 2 ++ (part s 2 11 ++ xs)) (g ∙ parts-row (layout (m .tag)) s 13)
-          ∙ ap (λ xs. part s 0 2 ++ xs) (sym p) ∙ sym (part-split s 0 2 (11 + z)) ∙ ap (λ k. take k s) x),
+      ap (drop 2) u ∙ behind d (p ++ drop n t) (length-digits 2 (sizeOf (m .tag)))
+          ∙ sym (ap (drop 2) v ∙ behind (part s 0 2) (p ++ drop n t) (sym (ap length a) ∙ length-digits 2 (be (part s 0 2)))),
+      λ f. u ∙ ap (λ xs. xs ++ (p ++ drop n t)) (ap (digits 2) (sym f) ∙ a) ∙ sym v,
     )

@@ -1,3 +1,2 @@
-pub mod Exceptions
 pub mod Trips
 pub mod Outcomes

@@ -4,6 +4,8 @@ use Prim.Native.Nat.{ℕ, _≤_}
 use mathlib.Core.Path.{_≡_}
 use mathlib.Core.List.{List, _++_}
 use lib.ListN.{length, take, drop}
+use Rattle.format.specs.Layout.{be, part}
+use Rattle.format.specs.Rows.{sizeOf}
 use Rattle.records.specs.declared.Message.{Message}
 use Rattle.reader.specs.declared.Window.{Window}
 use Rattle.reader.specs.declared.Window.the-variants.{Message as Accepted, Incomplete, Refused}
@@ -12,7 +14,6 @@ use Rattle.writer.specs.declared.Written.the-variants.{Done}
 use Rattle.writer.specs.Writing.{writtenOf, bufferAfter}
 use Rattle.trips.specs.declared.Again.{Again}
 use Rattle.trips.specs.declared.Again.the-variants.{Wrote, NotThere, NotRead}
-use Rattle.trips.specs.Exceptions.{Regular}
 
 -- the buffer behind a write
 abbrev pub writtenIn : Message → List ℕ → List ℕ
@@ -33,7 +34,13 @@ againIn (Refused n p) t = t
 abbrev pub ReadBack : Message → List ℕ → Window → Type 0
 ReadBack m t r = (n : ℕ) → writtenOf m (length t) ≡ Done n → r ≡ Accepted m n
 
--- the bytes s, where they were read as a message and none of the exceptions holds, are written back as they were: r is the answer, u the buffer t behind it
+-- the one exception does not hold of the bytes s, which were read as m: the length is the size
+abbrev pub Regular : List ℕ → Message → Type 0
+Regular s m = be (part s 0 2) ≡ sizeOf (m .tag)
+
+-- the bytes s, where they were read as a message that has room, are written back as they were, behind the length field in any case, and from it on unless it is
+-- the exception: r is the answer, u the buffer t behind it
 abbrev pub WrittenBack : List ℕ → List ℕ → Again → List ℕ → Type 0
 WrittenBack s t r u =
-    (m : Message) (n : ℕ) → windowOf s ≡ Accepted m n → n ≤ length t → Regular s m → (r ≡ Wrote (Done n)) × (u ≡ take n s ++ drop n t)
+    (m : Message) (n : ℕ) → windowOf s ≡ Accepted m n → n ≤ length t
+    → (r ≡ Wrote (Done n)) × (drop 2 u ≡ drop 2 (take n s ++ drop n t)) × (Regular s m → u ≡ take n s ++ drop n t)

@@ -24,7 +24,8 @@ pub fn write_read(m: Message, buf: &mut [u8]) -> Window
     reader::parse_message(buf)
 }
 
-// Reads the bytes and writes the message that they are. It is written as the bytes that it was, and later bytes stay, but for the three exceptions.
+// Reads the bytes and writes the message that they are. It is written as the bytes that it was, and later bytes stay; but where its length field was not its size, the size is
+// written there.
 pub fn read_write(s: &[u8], buf: &mut [u8]) -> Again
     ensures { λ r. ⌜ r ≡ againOf (windowOf (now (s .entry))) (now (buf .entry)) ⌝ }
     ensures { λ _. ⌜ now (buf .exit) ≡ againIn (windowOf (now (s .entry))) (now (buf .entry)) ⌝ }

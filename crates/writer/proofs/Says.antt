@@ -1,17 +1,17 @@
 -- The cases of the writer's answer, over plain values; the laws of bodies that the writer cites.
 -- Assumes nothing.
 use mathlib.Core.Path.{_≡_, refl, sym, ap, _∙_}
-use mathlib.Core.List.{List, [], _∷_, _++_}
-use mathlib.Core.Bool.{Bool, true, false, cond, _&&_}
+use mathlib.Core.List.{List, _++_}
+use mathlib.Core.Bool.{Bool, true, false, _&&_}
 use native.Mathlib.Omega.{arith}
 use Prim.Native.Nat.{ℕ, _+_, _^_, _≤_, _<_}
 use lib.ListN.{length, length-append, getD, drop}
 use lib.Seq.{sets, sets-eq, length-sets}
 use borrow.Author.Tests.{eq-eqb, ne-eqb, lt-ltb, le-ltb, le-leb, lt-leb}
 use Rattle.format.specs.Utf8.{wellFormed}
-use Rattle.format.specs.Layout.{Kind, widths}
+use Rattle.format.specs.Layout.{widths}
 use Rattle.format.specs.Rows.{sizeOf, header}
-use Rattle.pen.specs.Encode.{digits, kept, write, layout, putRow}
+use Rattle.pen.specs.Encode.{digits, write, layout, putRow}
 use Rattle.pen.proofs.Digits.{sets-append}
 use Rattle.pen.proofs.Puts.{length-write, row-fits}
 use Rattle.records.specs.declared.Mpid.{Mpid}
@@ -68,14 +68,9 @@ order-checked a p {r = r} {y = y} h e f g =
     go Absent = refl
     go (Present v) = ap (λ y. looked (mpidTag (Present v)) (wellFormed (digits 8 (a .stock)) && y) false) (sym (and-true (wellFormed (digits 4 v))))
 
--- how many values a row has: one for each field that is kept
-abbrev pub count : List Kind → ℕ
-count [] = 0
-count (k ∷ ks) = cond (kept k) 1 0 + count ks
-
--- a body goes by its tag's row: the size is that of the fields, counted from the tag on; behind the tag stand as many values as the row has
+-- a body goes by its tag's row: the size is that of the fields, counted from the tag on; behind the tag stand as many values as the row has fields
 abbrev Rowed : List ℕ → Type 0
-Rowed vs = (sizeOf (getD vs 0 0) ≡ 11 + widths (layout (getD vs 0 0))) × (length vs ≡ 1 + count (layout (getD vs 0 0)))
+Rowed vs = (sizeOf (getD vs 0 0) ≡ 11 + widths (layout (getD vs 0 0))) × (length vs ≡ 1 + length (layout (getD vs 0 0)))
 
 order-rowed : (a : AddOrder) (p : Mpid) → Rowed (orderValues a p)
 unfolding sizeOf layout
@@ -103,12 +98,12 @@ body-rowed (Body·.ReplaceOrder x) = (refl, refl)
 body-rowed (Body·.RetailPriceImprovementIndicator x) = (refl, refl)
 body-rowed (Body·.StockDirectory x) = (refl, refl)
 body-rowed (Body·.SystemEvent event) = (refl, refl)
-body-rowed (Body·.TradingAction stock trading-state reason) = (refl, refl)
+body-rowed (Body·.TradingAction stock trading-state reserved reason) = (refl, refl)
 
 pub body-size : (b : Body) → sizeOf (tagOf b) ≡ 11 + widths (layout (tagOf b))
 body-size b = body-rowed b .0
 
-pub body-count : (b : Body) → length (values b) ≡ 1 + count (layout (tagOf b))
+pub body-count : (b : Body) → length (values b) ≡ 1 + length (layout (tagOf b))
 body-count b = body-rowed b .1
 
 -- the answers

@@ -194,6 +194,7 @@ fn check_body(b: Body) -> Checked
         Body::TradingAction {
             stock,
             trading_state: _,
+            reserved: _,
             reason,
         } => Checked {
             tag: b'H',

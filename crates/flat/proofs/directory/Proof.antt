@@ -61,8 +61,8 @@ tier-code-requires c κs = search needs
 cast-t28 : tie.Need-cast-t28
 cast-t28 c = search needs
 
-flag-code-requires-3 : tie.Need-flag-code-requires-3
-flag-code-requires-3 c κs = search needs
+etp-flag-code-requires : tie.Need-etp-flag-code-requires
+etp-flag-code-requires c κs = search needs
 
 cast-t30 : tie.Need-cast-t30
 cast-t30 c = search needs
@@ -80,7 +80,7 @@ returns : tie.Need-returns
 returns c =
     rw (
       c .yes-no-code2 .ensures,
-      c .before .before .flag-code3 .ensures,
+      c .before .before .etp-flag-code .ensures,
       c .before .before .before .tier-code .ensures,
       c .before .before .before .before .flag-code2 .ensures,
       c .before .before .before .before .before .flag-code .ensures,
@@ -115,7 +115,7 @@ directory-spec =
     cast-t26
     tier-code-requires
     cast-t28
-    flag-code-requires-3
+    etp-flag-code-requires
     cast-t30
     cast-t31
     yes-no-code-requires-2

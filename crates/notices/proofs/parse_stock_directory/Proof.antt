@@ -6,7 +6,7 @@ use Rattle.format.specs.Ascii.{'R'}
 use Rattle.format.specs.Meaning.{fault32, fault64, fault8, num32M, num64M, num8M}
 use Rattle.format.proofs.Runs.{value, fault, body-stops, body-reads, end, _⨾_, start, _▹_, Past}
 use Rattle.codes.specs.Names.{subtypeFault, subtypeM}
-use Rattle.codes.proofs.Codes.{authenticity-named, category-named, class-named, etp-named, flag-named, status-named, tier-named, yesNo-named}
+use Rattle.codes.proofs.Codes.{authenticity-named, category-named, class-named, etpFlag-named, flag-named, status-named, tier-named, yesNo-named}
 use borrow.Author.Needs.{needs}
 use Rattle.notices.proofs.parse_stock_directory.Statement.{statement}
 use Rattle.notices.proofs.parse_stock_directory.Tie as tie
@@ -45,7 +45,7 @@ past-11 : (c : tie.After-known-told11) → Past 'R' (now (c .before .before .bef
 past-11 c = past-10 (c .before .before .before .before) ▹ value num8M (c .before .before .before .tier-at .ensures) (c .before .f11 .given .1)
 
 past-12 : (c : tie.After-known-told12) → Past 'R' (now (c .before .before .before .before .before .before .before .before .before .before .before .before .before .before .before .before .before .before .before .before .before .before .before .before .before .before .before .before .before .before .before .before .before .before .before .before .before .before .before .before .before .before .before .before .before .before .before .before .before .args .s)) 12
-past-12 c = past-11 (c .before .before .before .before) ▹ value num8M (c .before .before .before .etp-at .ensures) (c .before .f12 .given .1)
+past-12 c = past-11 (c .before .before .before .before) ▹ value num8M (c .before .before .before .etp-flag-at .ensures) (c .before .f12 .given .1)
 
 past-13 : (c : tie.After-known-told13) → Past 'R' (now (c .before .before .before .before .before .before .before .before .before .before .before .before .before .before .before .before .before .before .before .before .before .before .before .before .before .before .before .before .before .before .before .before .before .before .before .before .before .before .before .before .before .before .before .before .before .before .before .before .before .before .before .before .before .args .s)) 13
 past-13 c = past-12 (c .before .before .before .before) ▹ value num32M (c .before .before .before .be-u322 .ensures) (c .before .f13 .given .1)
@@ -226,8 +226,8 @@ returns-11 : tie.Need-returns-11
 returns-11 c =
     body-stops 'R' _ (c .no-u88 .result) refl (past-10 (c .before .before .before .before)) (fault num8M fault8 (c .before .before .before .tier-at .ensures) (c .before .enum-told11 .given .1) refl (c .no-u88 .ensures))
 
-etp-at-requires : tie.Need-etp-at-requires
-etp-at-requires c κs = search needs
+etp-flag-at-requires : tie.Need-etp-flag-at-requires
+etp-flag-at-requires c κs = search needs
 
 enum-known-f12 : tie.Need-enum-known-f12
 enum-known-f12 c = search needs
@@ -240,7 +240,7 @@ no-u8-requires-9 c κs = search needs
 
 returns-12 : tie.Need-returns-12
 returns-12 c =
-    body-stops 'R' _ (c .no-u89 .result) refl (past-11 (c .before .before .before .before)) (fault num8M fault8 (c .before .before .before .etp-at .ensures) (c .before .enum-told12 .given .1) refl (c .no-u89 .ensures))
+    body-stops 'R' _ (c .no-u89 .result) refl (past-11 (c .before .before .before .before)) (fault num8M fault8 (c .before .before .before .etp-flag-at .ensures) (c .before .enum-told12 .given .1) refl (c .no-u89 .ensures))
 
 be-u32-requires-2 : tie.Need-be-u32-requires-2
 be-u32-requires-2 c κs = search needs
@@ -298,8 +298,8 @@ flag-of-requires-2 c κs = search needs
 tier-of-requires : tie.Need-tier-of-requires
 tier-of-requires c κs = search needs
 
-flag-of-requires-3 : tie.Need-flag-of-requires-3
-flag-of-requires-3 c κs = search needs
+etp-flag-of-requires : tie.Need-etp-flag-of-requires
+etp-flag-of-requires c κs = search needs
 
 yes-no-of-requires-2 : tie.Need-yes-no-of-requires-2
 yes-no-of-requires-2 c κs = search needs
@@ -332,7 +332,7 @@ returns-15 c =
     ⨾ flag-named _ _ (value num8M (p9 .before .before .flag-at .ensures) (p9 .f9 .given .1)) (c .before .before .before .before .flag-of .ensures)
     ⨾ flag-named _ _ (value num8M (p10 .before .before .flag-at2 .ensures) (p10 .f10 .given .1)) (c .before .before .before .flag-of2 .ensures)
     ⨾ tier-named _ _ (value num8M (p11 .before .before .tier-at .ensures) (p11 .f11 .given .1)) (c .before .before .tier-of .ensures)
-    ⨾ etp-named _ _ (value num8M (p12 .before .before .etp-at .ensures) (p12 .f12 .given .1)) (c .before .flag-of3 .ensures)
+    ⨾ etpFlag-named _ _ (value num8M (p12 .before .before .etp-flag-at .ensures) (p12 .f12 .given .1)) (c .before .etp-flag-of .ensures)
     ⨾ value num32M (p13 .before .before .be-u322 .ensures) (p13 .f13 .given .1)
     ⨾ yesNo-named _ _ (value num8M (p14 .before .before .yes-no-at2 .ensures) (p14 .f14 .given .1)) (c .yes-no-of2 .ensures)
     ⨾ end)
@@ -396,7 +396,7 @@ parse-stock-directory-spec =
     enum-told-11
     no-u8-requires-8
     returns-11
-    etp-at-requires
+    etp-flag-at-requires
     enum-known-f12
     enum-told-12
     no-u8-requires-9
@@ -419,6 +419,6 @@ parse-stock-directory-spec =
     flag-of-requires
     flag-of-requires-2
     tier-of-requires
-    flag-of-requires-3
+    etp-flag-of-requires
     yes-no-of-requires-2
     returns-15)

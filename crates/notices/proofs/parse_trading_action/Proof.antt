@@ -3,9 +3,7 @@
 use denote.Ref.{now}
 use mathlib.Core.Path.{refl}
 use Rattle.format.specs.Ascii.{'H'}
-use Rattle.format.specs.Layout.{skip}
 use Rattle.format.specs.Meaning.{fault32, fault64, fault8, num32M, num64M, num8M}
-use Rattle.format.proofs.Fields.{one-short, skip-got}
 use Rattle.format.proofs.Runs.{value, fault, body-stops, body-reads, end, _⨾_, start, _▹_, Past}
 use Rattle.codes.proofs.Codes.{tradingState-named}
 use borrow.Author.Needs.{needs}
@@ -18,8 +16,8 @@ past-1 c = start ▹ value num64M (c .before .before .before .text8 .ensures) (c
 past-2 : (c : tie.After-known-told2) → Past 'H' (now (c .before .before .before .before .before .before .before .before .before .args .s)) 2
 past-2 c = past-1 (c .before .before .before .before) ▹ value num8M (c .before .before .before .trading-state-at .ensures) (c .before .f2 .given .1)
 
-past-3 : (c : tie.After-enum-told3) → Past 'H' (now (c .before .before .before .before .before .before .before .before .before .before .before .before .args .s)) 3
-past-3 c = past-2 (c .before .before .before) ▹ skip-got _ _ (value num8M (c .before .before .be-u8 .ensures) (c .enum-told3 .given .1))
+past-3 : (c : tie.After-known-told3) → Past 'H' (now (c .before .before .before .before .before .before .before .before .before .before .before .before .before .args .s)) 3
+past-3 c = past-2 (c .before .before .before .before) ▹ value num8M (c .before .before .before .be-u8 .ensures) (c .before .f3 .given .1)
 
 text8-requires : tie.Need-text8-requires
 text8-requires c κs = search needs
@@ -56,18 +54,18 @@ returns-2 c =
 be-u8-requires : tie.Need-be-u8-requires
 be-u8-requires c κs = search needs
 
+enum-known-f3 : tie.Need-enum-known-f3
+enum-known-f3 c = search needs
+
 enum-told-3 : tie.Need-enum-told-3
 enum-told-3 c = search needs
-
-enum-told-4 : tie.Need-enum-told-4
-enum-told-4 c = search needs
 
 no-u8-requires-2 : tie.Need-no-u8-requires-2
 no-u8-requires-2 c κs = search needs
 
 returns-3 : tie.Need-returns-3
 returns-3 c =
-    body-stops 'H' _ (c .no-u82 .result) refl (past-2 (c .before .before .before .before)) (one-short skip _ _ (c .no-u82 .result) refl (fault num8M fault8 (c .before .before .before .be-u8 .ensures) (c .before .enum-told4 .given .1) refl (c .no-u82 .ensures)))
+    body-stops 'H' _ (c .no-u82 .result) refl (past-2 (c .before .before .before .before)) (fault num8M fault8 (c .before .before .before .be-u8 .ensures) (c .before .enum-told3 .given .1) refl (c .no-u82 .ensures))
 
 text4-requires : tie.Need-text4-requires
 text4-requires c κs = search needs
@@ -75,15 +73,15 @@ text4-requires c κs = search needs
 enum-known-f4 : tie.Need-enum-known-f4
 enum-known-f4 c = search needs
 
-enum-told-5 : tie.Need-enum-told-5
-enum-told-5 c = search needs
+enum-told-4 : tie.Need-enum-told-4
+enum-told-4 c = search needs
 
 no-u32-requires : tie.Need-no-u32-requires
 no-u32-requires c κs = search needs
 
 returns-4 : tie.Need-returns-4
 returns-4 c =
-    body-stops 'H' _ (c .no-u32 .result) refl (past-3 (c .before .before .before .before)) (fault num32M fault32 (c .before .before .before .text4 .ensures) (c .before .enum-told5 .given .1) refl (c .no-u32 .ensures))
+    body-stops 'H' _ (c .no-u32 .result) refl (past-3 (c .before .before .before .before)) (fault num32M fault32 (c .before .before .before .text4 .ensures) (c .before .enum-told4 .given .1) refl (c .no-u32 .ensures))
 
 trading-state-of-requires : tie.Need-trading-state-of-requires
 trading-state-of-requires c κs = search needs
@@ -91,13 +89,13 @@ trading-state-of-requires c κs = search needs
 returns-5 : tie.Need-returns-5
 returns-5 c =
     let p4 = c .before .before in
-    let p3 = p4 .before .before .before in
+    let p3 = p4 .before .before .before .before in
     let p2 = p3 .before .before .before .before in
     let p1 = p2 .before .before .before .before in
     body-reads 'H' _ refl
     (value num64M (p1 .before .before .text8 .ensures) (p1 .f1 .given .1)
     ⨾ tradingState-named _ _ (value num8M (p2 .before .before .trading-state-at .ensures) (p2 .f2 .given .1)) (c .trading-state-of .ensures)
-    ⨾ skip-got _ _ (value num8M (p3 .before .before .be-u8 .ensures) (p3 .enum-told3 .given .1))
+    ⨾ value num8M (p3 .before .before .be-u8 .ensures) (p3 .f3 .given .1)
     ⨾ value num32M (p4 .before .before .text4 .ensures) (p4 .f4 .given .1)
     ⨾ end)
 
@@ -116,13 +114,13 @@ parse-trading-action-spec =
     no-u8-requires
     returns-2
     be-u8-requires
+    enum-known-f3
     enum-told-3
-    enum-told-4
     no-u8-requires-2
     returns-3
     text4-requires
     enum-known-f4
-    enum-told-5
+    enum-told-4
     no-u32-requires
     returns-4
     trading-state-of-requires

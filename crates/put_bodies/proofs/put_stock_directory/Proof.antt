@@ -69,8 +69,8 @@ tier-code-requires c κs = search needs
 set-u8-requires-8 : tie.Need-set-u8-requires-8
 set-u8-requires-8 c κs = search needs
 
-flag-code-requires-3 : tie.Need-flag-code-requires-3
-flag-code-requires-3 c κs = search needs
+etp-flag-code-requires : tie.Need-etp-flag-code-requires
+etp-flag-code-requires c κs = search needs
 
 set-u8-requires-9 : tie.Need-set-u8-requires-9
 set-u8-requires-9 c κs = search needs
@@ -114,7 +114,7 @@ returns c =
     ⨾ p9 .set-u86 .ensures by p9 .before .flag-code .ensures
     ⨾ p10 .set-u87 .ensures by p10 .before .flag-code2 .ensures
     ⨾ p11 .set-u88 .ensures by p11 .before .tier-code .ensures
-    ⨾ p12 .set-u89 .ensures by p12 .before .flag-code3 .ensures
+    ⨾ p12 .set-u89 .ensures by p12 .before .etp-flag-code .ensures
     ⨾ p13 .set-u322 .ensures
     ⨾ p14 .set-u810 .ensures by p14 .before .yes-no-code2 .ensures
     ⨾ end)
@@ -152,7 +152,7 @@ put-stock-directory-spec =
     set-u8-requires-7
     tier-code-requires
     set-u8-requires-8
-    flag-code-requires-3
+    etp-flag-code-requires
     set-u8-requires-9
     set-u32-requires-2
     yes-no-code-requires-2

@@ -35,7 +35,7 @@ returns c =
     let p2 = p3 .before .before .before .before in
     let p1 = p2 .before .before .before .before .before in
     let a = p1 .before .before .before .args in
-    body-puts (now (a .buf)) (values (Body·.TradingAction (a .stock) (a .trading-state) (a .reason)))
+    body-puts (now (a .buf)) (values (Body·.TradingAction (a .stock) (a .trading-state) (a .reserved) (a .reason)))
     (p1 .set-u64 .ensures
     ⨾ p2 .set-u8 .ensures by p2 .before .trading-state-code .ensures
     ⨾ p3 .set-u82 .ensures

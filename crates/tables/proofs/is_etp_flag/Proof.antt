@@ -1,4 +1,4 @@
--- `tables::is_etp` meets its contract.
+-- `tables::is_etp_flag` meets its contract.
 -- Assumes nothing.
 use mathlib.Core.Path.{refl}
 use mathlib.Core.List.{[], _∷_}
@@ -7,8 +7,8 @@ use Rattle.format.specs.Ascii.{'␣', 'M', 'Y'}
 use Rattle.format.specs.Codes.{etpFlag}
 use Rattle.tables.proofs.Codes.{one-of, in-range}
 use borrow.Author.Needs.{needs}
-use Rattle.tables.proofs.is_etp.Statement.{statement}
-use Rattle.tables.proofs.is_etp.Tie as tie
+use Rattle.tables.proofs.is_etp_flag.Statement.{statement}
+use Rattle.tables.proofs.is_etp_flag.Tie as tie
 
 legal-requires : tie.Need-legal-requires
 legal-requires c κs = search needs
@@ -24,5 +24,5 @@ returns-3 : tie.Need-returns-3
 unfolding etpFlag
 returns-3 c = in-range etpFlag 'M' 2 (c .before .before .before .args .b) tt (omega arith) (omega arith)
 
-pub is-etp-spec : {M : Type 1} → statement M
-is-etp-spec = tie.close (tie.spec legal-requires returns returns-2 returns-3)
+pub is-etp-flag-spec : {M : Type 1} → statement M
+is-etp-flag-spec = tie.close (tie.spec legal-requires returns returns-2 returns-3)
