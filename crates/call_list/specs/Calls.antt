@@ -13,7 +13,7 @@ use Rattle.call_list.specs.declared.Asked.{Asked}
 
 -- the value of a number that was read; 0 where the list has not all of its bytes
 abbrev pub valueIn : Got → ℕ
-valueIn (got v) = getD v 0 0
+valueIn (got v) = v
 valueIn short = 0
 valueIn (refused n p) = 0
 

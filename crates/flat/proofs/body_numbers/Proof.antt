@@ -178,6 +178,9 @@ cast-numbers-13 c = search needs
 cast-numbers-14 : tie.Need-cast-numbers-14
 cast-numbers-14 c = search needs
 
+cast-numbers-15 : tie.Need-cast-numbers-15
+cast-numbers-15 c = search needs
+
 numbers-requires-11 : tie.Need-numbers-requires-11
 numbers-requires-11 c κs = search needs
 
@@ -303,6 +306,7 @@ body-numbers-spec =
     trading-state-code-requires
     cast-numbers-13
     cast-numbers-14
+    cast-numbers-15
     numbers-requires-11
     returns
     returns-2

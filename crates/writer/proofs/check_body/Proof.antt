@@ -212,7 +212,7 @@ returns-20 : tie.Need-returns-20
 unfolding textsOf intraday layout
 returns-20 c =
     let b = c .before .before .before .before .b11 .given in
-    two-texts 'H' 8 (b .0 .0) 4 (b .0 .1 .1 .0) (checked (b .1)) (c .before .before .is-text811 .ensures) (c .before .is-text42 .ensures) (c .both3 .ensures)
+    two-texts 'H' 8 (b .0 .0) 4 (b .0 .1 .1 .1 .0) (checked (b .1)) (c .before .before .is-text811 .ensures) (c .before .is-text42 .ensures) (c .both3 .ensures)
 
 pub check-body-spec : {M : Type 1} → statement M
 check-body-spec =
