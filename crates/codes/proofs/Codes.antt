@@ -35,11 +35,11 @@ use Rattle.codes.specs.Names.{eventByte, eventFrom, categoryByte, catego
 use Rattle.format.proofs.Tests.{both}
 
 -- every code of a set is the byte of its name
-abbrev backs : {A : Type 0} → (A → ℕ) → (ℕ → A) → List ℕ → Bool
+abbrev pub backs : {A : Type 0} → (A → ℕ) → (ℕ → A) → List ℕ → Bool
 backs byte from [] = true
 backs byte from (k ∷ ks) = eqb (byte (from k)) k && backs byte from ks
 
-back : {A : Type 0} (byte : A → ℕ) (from : ℕ → A) (set : List ℕ) (b : ℕ) → T (backs byte from set) → member b set ≡ true → byte (from b) ≡ b
+pub back : {A : Type 0} (byte : A → ℕ) (from : ℕ → A) (set : List ℕ) (b : ℕ) → T (backs byte from set) → member b set ≡ true → byte (from b) ≡ b
 back byte from [] b t m = absurd (false≢true m)
 back byte from (k ∷ ks) b t m = go (eqb b k) refl m (back byte from ks b (both (eqb (byte (from k)) k) (backs byte from ks) t .1))
   where

@@ -1,117 +1,100 @@
--- The byte of the name that a legal code has is the code: a test over each set.
+-- The byte of the name that a legal code has is the code: one law of the codes, computed over each set.
 -- Assumes nothing.
 use Prim.Native.Nat.{ℕ}
-use mathlib.Core.Path.{_≡_, refl, sym, ap, _∙_}
-use mathlib.Core.Bool.{Bool, true, false, _&&_, _||_, false≢true}
-use mathlib.Core.List.{List, [], _∷_}
-use borrow.Author.Tests.{eqb-true}
-use lib.Dec.{T, eqb}
+use mathlib.Core.Path.{_≡_}
+use mathlib.Core.Bool.{true}
+use mathlib.Core.List.{List}
+use lib.Dec.{eqb}
 use Rattle.format.specs.Ascii.{'Y', 'P'}
 use Rattle.format.specs.Codes.{event, category, status, class, tier, makerMode, participantState, action, tradingState, side, direction, cross, qualifier, level, interest, flag, imbalanceCross, yesNo, authenticity, etpFlag, subtypes}
 use Rattle.format.specs.Layout.{member}
-use Rattle.format.proofs.Tests.{both, is-true}
 use Rattle.codes.specs.Names.{eventByte, eventFrom, categoryByte, categoryFrom, statusByte, statusFrom, classByte, classFrom, tierByte, tierFrom, makerModeByte, makerModeFrom, participantStateByte, participantStateFrom, actionByte, actionFrom, tradingStateByte, tradingStateFrom, sideByte, sideFrom, directionByte, directionFrom, crossByte, crossFrom, qualifierByte, qualifierFrom, levelByte, levelFrom, interestByte, interestFrom, flagByte, flagFrom, etpFlagByte, etpFlagFrom, yesNoByte, authenticityByte, subtypeByte, subtypeFrom}
+use Rattle.codes.proofs.Codes.{back}
 
--- every code of the set has its name's byte: a test over the set
-abbrev Named : (ℕ → ℕ) → List ℕ → Type 0
-Named f set = (x : ℕ) → member x set ≡ true → f x ≡ x
+abbrev Named : {A : Type 0} → (A → ℕ) → (ℕ → A) → List ℕ → Type 0
+Named byte from set = (x : ℕ) → member x set ≡ true → byte (from x) ≡ x
 
-abbrev fixes : (ℕ → ℕ) → List ℕ → Bool
-fixes f [] = true
-fixes f (b ∷ bs) = eqb (f b) b && fixes f bs
-
-named : (f : ℕ → ℕ) (set : List ℕ) → T (fixes f set) → Named f set
-named f [] t x m = absurd (false≢true m)
-named f (b ∷ bs) t x m = go (eqb x b) refl m (named f bs (h .1) x)
-  where
-    h : T (eqb (f b) b) × T (fixes f bs)
-    h = both (eqb (f b) b) (fixes f bs) t
-
-    go : (q : Bool) → eqb x b ≡ q → (q || member x bs) ≡ true → (member x bs ≡ true → f x ≡ x) → f x ≡ x
-    go true e n rest = let i : x ≡ b = eqb-true x b e in ap f i ∙ eqb-true (f b) b (is-true (eqb (f b) b) (h .0)) ∙ sym i
-    go false e n rest = rest n
-
-pub event-code : Named (λ b. eventByte (eventFrom b)) event
+pub event-code : Named eventByte eventFrom event
 unfolding eventFrom event
-event-code = named (λ b. eventByte (eventFrom b)) event tt
+event-code x = back eventByte eventFrom event x tt
 
-pub category-code : Named (λ b. categoryByte (categoryFrom b)) category
+pub category-code : Named categoryByte categoryFrom category
 unfolding categoryFrom category
-category-code = named (λ b. categoryByte (categoryFrom b)) category tt
+category-code x = back categoryByte categoryFrom category x tt
 
-pub status-code : Named (λ b. statusByte (statusFrom b)) status
+pub status-code : Named statusByte statusFrom status
 unfolding statusFrom status
-status-code = named (λ b. statusByte (statusFrom b)) status tt
+status-code x = back statusByte statusFrom status x tt
 
-pub class-code : Named (λ b. classByte (classFrom b)) class
+pub class-code : Named classByte classFrom class
 unfolding classFrom class
-class-code = named (λ b. classByte (classFrom b)) class tt
+class-code x = back classByte classFrom class x tt
 
-pub tier-code : Named (λ b. tierByte (tierFrom b)) tier
+pub tier-code : Named tierByte tierFrom tier
 unfolding tierFrom tier
-tier-code = named (λ b. tierByte (tierFrom b)) tier tt
+tier-code x = back tierByte tierFrom tier x tt
 
-pub makerMode-code : Named (λ b. makerModeByte (makerModeFrom b)) makerMode
+pub makerMode-code : Named makerModeByte makerModeFrom makerMode
 unfolding makerModeFrom makerMode
-makerMode-code = named (λ b. makerModeByte (makerModeFrom b)) makerMode tt
+makerMode-code x = back makerModeByte makerModeFrom makerMode x tt
 
-pub participantState-code : Named (λ b. participantStateByte (participantStateFrom b)) participantState
+pub participantState-code : Named participantStateByte participantStateFrom participantState
 unfolding participantStateFrom participantState
-participantState-code = named (λ b. participantStateByte (participantStateFrom b)) participantState tt
+participantState-code x = back participantStateByte participantStateFrom participantState x tt
 
-pub action-code : Named (λ b. actionByte (actionFrom b)) action
+pub action-code : Named actionByte actionFrom action
 unfolding actionFrom action
-action-code = named (λ b. actionByte (actionFrom b)) action tt
+action-code x = back actionByte actionFrom action x tt
 
-pub tradingState-code : Named (λ b. tradingStateByte (tradingStateFrom b)) tradingState
+pub tradingState-code : Named tradingStateByte tradingStateFrom tradingState
 unfolding tradingStateFrom tradingState
-tradingState-code = named (λ b. tradingStateByte (tradingStateFrom b)) tradingState tt
+tradingState-code x = back tradingStateByte tradingStateFrom tradingState x tt
 
-pub side-code : Named (λ b. sideByte (sideFrom b)) side
+pub side-code : Named sideByte sideFrom side
 unfolding sideFrom side
-side-code = named (λ b. sideByte (sideFrom b)) side tt
+side-code x = back sideByte sideFrom side x tt
 
-pub direction-code : Named (λ b. directionByte (directionFrom b)) direction
+pub direction-code : Named directionByte directionFrom direction
 unfolding directionFrom direction
-direction-code = named (λ b. directionByte (directionFrom b)) direction tt
+direction-code x = back directionByte directionFrom direction x tt
 
-pub cross-code : Named (λ b. crossByte (crossFrom b)) cross
+pub cross-code : Named crossByte crossFrom cross
 unfolding crossFrom cross
-cross-code = named (λ b. crossByte (crossFrom b)) cross tt
+cross-code x = back crossByte crossFrom cross x tt
 
-pub qualifier-code : Named (λ b. qualifierByte (qualifierFrom b)) qualifier
+pub qualifier-code : Named qualifierByte qualifierFrom qualifier
 unfolding qualifierFrom qualifier
-qualifier-code = named (λ b. qualifierByte (qualifierFrom b)) qualifier tt
+qualifier-code x = back qualifierByte qualifierFrom qualifier x tt
 
-pub level-code : Named (λ b. levelByte (levelFrom b)) level
+pub level-code : Named levelByte levelFrom level
 unfolding levelFrom level
-level-code = named (λ b. levelByte (levelFrom b)) level tt
+level-code x = back levelByte levelFrom level x tt
 
-pub interest-code : Named (λ b. interestByte (interestFrom b)) interest
+pub interest-code : Named interestByte interestFrom interest
 unfolding interestFrom interest
-interest-code = named (λ b. interestByte (interestFrom b)) interest tt
+interest-code x = back interestByte interestFrom interest x tt
 
-pub flag-code : Named (λ b. flagByte (flagFrom b)) flag
+pub flag-code : Named flagByte flagFrom flag
 unfolding flagFrom flag
-flag-code = named (λ b. flagByte (flagFrom b)) flag tt
+flag-code x = back flagByte flagFrom flag x tt
 
-pub etpFlag-code : Named (λ b. etpFlagByte (etpFlagFrom b)) etpFlag
+pub etpFlag-code : Named etpFlagByte etpFlagFrom etpFlag
 unfolding etpFlagFrom etpFlag
-etpFlag-code = named (λ b. etpFlagByte (etpFlagFrom b)) etpFlag tt
+etpFlag-code x = back etpFlagByte etpFlagFrom etpFlag x tt
 
 -- those of I are among the crosses
-pub imbalance-code : Named (λ b. crossByte (crossFrom b)) imbalanceCross
+pub imbalance-code : Named crossByte crossFrom imbalanceCross
 unfolding crossFrom imbalanceCross
-imbalance-code = named (λ b. crossByte (crossFrom b)) imbalanceCross tt
+imbalance-code x = back crossByte crossFrom imbalanceCross x tt
 
-pub yesNo-code : Named (λ b. yesNoByte (eqb b 'Y')) yesNo
+pub yesNo-code : Named yesNoByte (λ b. eqb b 'Y') yesNo
 unfolding yesNo
-yesNo-code = named (λ b. yesNoByte (eqb b 'Y')) yesNo tt
+yesNo-code x = back yesNoByte (λ b. eqb b 'Y') yesNo x tt
 
-pub authenticity-code : Named (λ b. authenticityByte (eqb b 'P')) authenticity
+pub authenticity-code : Named authenticityByte (λ b. eqb b 'P') authenticity
 unfolding authenticity
-authenticity-code = named (λ b. authenticityByte (eqb b 'P')) authenticity tt
+authenticity-code x = back authenticityByte (λ b. eqb b 'P') authenticity x tt
 
-pub subtype-code : Named (λ b. subtypeByte (subtypeFrom b)) subtypes
+pub subtype-code : Named subtypeByte subtypeFrom subtypes
 unfolding subtypeByte subtypeFrom subtypes
-subtype-code = named (λ b. subtypeByte (subtypeFrom b)) subtypes tt
+subtype-code x = back subtypeByte subtypeFrom subtypes x tt
