@@ -2,6 +2,15 @@
 // were, how many were the same, and how many bytes were read of a message that is none: cut short, or refused. There it stops, and says on standard error
 // where in the recording that message begins. Bytes are taken one by one: each strict prefix of a message is incomplete, so the window is always one
 // message. A read or a write that fails ends the program, with a word on standard error.
+ghost use mathlib.Core.Path.{_≡_};
+ghost use mathlib.Core.Bool.{true, false};
+ghost use Prim.Native.Nat.{_≤_};
+ghost use lib.Dec.{eqb};
+ghost use lib.ListN.{take};
+ghost use Rattle.format.specs.Layout.{be, part};
+ghost use Rattle.format.specs.Rows.{sizeOf, window};
+ghost use Rattle.reader.specs.declared.Window.the-variants as Window·;
+ghost use Rattle.reader.specs.Window.{windowM};
 use reader::Window;
 use records::Message;
 use writer::Written;
@@ -20,12 +29,12 @@ struct State {
 }
 
 // Whether the first n bytes are the same.
-fn compared(a: [u8; 52], b: [u8; 52], n: usize) -> bool {
+fn compared(a: [u8; 52], b: [u8; 52], n: usize) -> bool
+    requires { ⌜ n ≤ 52 ⌝ }
+    ensures { λ r. ⌜ (r ≡ true → take n a ≡ take n b) × (r ≡ false → take n a ≡ take n b → ⊥) ⌝ }
+{
     let mut i = 0;
     while i < n {
-        if i >= 52 {
-            return false;
-        }
         if a[i] != b[i] {
             return false;
         }
@@ -34,8 +43,11 @@ fn compared(a: [u8; 52], b: [u8; 52], n: usize) -> bool {
     true
 }
 
-// Whether a message that was read from the first n bytes of the window is written as these bytes.
-fn rewritten(m: Message, window: [u8; 52], n: usize) -> bool {
+// Whether a message that was read from the first n bytes is written as these bytes: it is exactly where its length field is its size.
+fn rewritten(m: Message, bytes: [u8; 52], n: usize) -> bool
+    requires { ⌜ windowM (Window·.Message m n) ≡ window bytes ⌝ }
+    ensures { λ r. ⌜ r ≡ eqb (be (part bytes 0 2)) (sizeOf (m .tag)) ⌝ }
+{
     let mut out = [0u8; 52];
     let w = writer::write(m, &mut out);
     let Written::Done(k) = w else {
@@ -44,7 +56,7 @@ fn rewritten(m: Message, window: [u8; 52], n: usize) -> bool {
     if k != n {
         return false;
     }
-    compared(window, out, n)
+    compared(bytes, out, n)
 }
 
 // A message's line; whether it could be written.
@@ -66,7 +78,9 @@ fn past(offset: u64, n: usize) -> u64 {
 }
 
 // A message of n bytes is written back, compared and counted, and the window is empty again.
-fn counted(s: State, m: Message, n: usize) -> State {
+fn counted(s: State, m: Message, n: usize) -> State
+    requires { ⌜ windowM (Window·.Message m n) ≡ window (s .window) ⌝ }
+{
     let window = s.window;
     let tag = m.tag;
     let same = rewritten(m, window, n);

@@ -33,7 +33,7 @@ codesFine [] vs = true
 codesFine (k ∷ ks) vs = codeFine k (getD vs 0 0) && codesFine ks (drop 1 vs)
 
 -- the number of w bytes of a number below 256 ^ w
-be-digits : (w v : ℕ) → v < 256 ^ w → be (digits w v) ≡ v
+pub be-digits : (w v : ℕ) → v < 256 ^ w → be (digits w v) ≡ v
 unfolding digits
 be-digits zero v h = omega arith
 be-digits (suc w) v h =

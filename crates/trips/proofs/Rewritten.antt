@@ -5,8 +5,8 @@ use mathlib.Core.List.{List, [], _∷_, _++_, append-assoc}
 use mathlib.Core.Logic.{⊎-elim}
 use native.Mathlib.Omega.{arith}
 use Prim.Native.Nat.{ℕ, _+_, _^_, _≤_, _<_}
-use lib.ListN.{length, getD, drop, take}
-use lib.Seq.{drop-append-seam}
+use lib.ListN.{length, getD, drop, take, length-take}
+use lib.Seq.{drop-append-seam, take-at, take-take}
 use Rattle.format.specs.Layout.{time, widths, be, part, judge, accepted}
 use Rattle.format.specs.Rows.{rows, Found, found, none, find, fieldsIn, under, header, sizeOf, bodyOf, window}
 use Rattle.format.proofs.Tests.{le-or-lt}
@@ -15,7 +15,7 @@ use Rattle.format.proofs.Fields.{field-judged, field-num}
 use Rattle.format.proofs.Runs.{Reads, end, _⨾_}
 use Rattle.format.proofs.Windows.{window-there, window-cut}
 use Rattle.laws.proofs.Rows.{all-read}
-use Rattle.laws.proofs.Window.{pre-accepted, window-covers}
+use Rattle.laws.proofs.Window.{pre-accepted, sizes-50, window-covers}
 use Rattle.pen.specs.Encode.{digits, write, layout}
 use Rattle.pen.proofs.Digits.{length-digits}
 use Rattle.records.specs.declared.Message.{Message}
@@ -26,7 +26,7 @@ use Rattle.writer.specs.declared.Written.the-variants.{Done}
 use Rattle.writer.specs.Writing.{tagOf, fieldsOf, textsOf, headOf, encode, writtenOf, bufferAfter}
 use Rattle.writer.proofs.Says.{body-size, says-done}
 use Rattle.trips.specs.Trips.{Regular}
-use Rattle.trips.proofs.Fields.{digits-be, took-row}
+use Rattle.trips.proofs.Fields.{be-digits, digits-be, took-row}
 use Rattle.trips.proofs.Legal.{no-intraday}
 
 -- an accepted message, field by field
@@ -129,4 +129,21 @@ written-back s m n t b e l =
       ap (drop 2) u ∙ behind d (p ++ drop n t) (length-digits 2 (sizeOf (m .tag)))
           ∙ sym (ap (drop 2) v ∙ behind (part s 0 2) (p ++ drop n t) (sym (ap length a) ∙ length-digits 2 (be (part s 0 2)))),
       λ f. u ∙ ap (λ xs. xs ++ (p ++ drop n t)) (ap (digits 2) (sym f) ∙ a) ∙ sym v,
+    )
+
+-- so the bytes that are written are those that were read exactly where the length is the size
+pub same-exactly : (s : List ℕ) (m : Message) (n : ℕ) (t : List ℕ) → Bytes s → windowM (Accepted m n) ≡ window s → n ≤ length t
+    → (Regular s m → take n s ≡ take n (bufferAfter (Done n) m t)) × (take n s ≡ take n (bufferAfter (Done n) m t) → Regular s m)
+unfolding bufferAfter
+same-exactly s m n t b e l =
+    let c = window-covers s (messageValues m) n (sym e) in
+    let d : List ℕ = digits 2 (sizeOf (m .tag)) in
+    let q : List ℕ = part s 2 (sizeOf (m .tag)) ++ drop n t in
+    let u : encode m ++ drop n t ≡ d ++ q = ap (λ xs. xs ++ drop n t) (written-again s m n (length t) b e l .1) ∙ append-assoc d (part s 2 (sizeOf (m .tag))) (drop n t) in
+    let k : length (take n s) ≡ n = simp length-take (omega (arith, c .1)) in (
+      λ f. sym (ap (take n) (written-back s m n t b e l .2 f) ∙ take-at (take n s) (drop n t) n k),
+      λ f.
+          let h : take 2 s ≡ d =
+          sym (take-take 2 n s (omega (arith, c .2))) ∙ ap (take 2) f ∙ take-take 2 n (encode m ++ drop n t) (omega (arith, c .2)) ∙ ap (take 2) u ∙ take-at d q 2 (length-digits 2 (sizeOf (m .tag))) in
+          ap be h ∙ be-digits 2 (sizeOf (m .tag)) (omega (arith, sizes-50 (m .tag))),
     )

@@ -5,6 +5,7 @@ use Prim.Native.Nat.{_+_}
 use native.Mathlib.Omega.{arith}
 use lib.ListN.{length, set, length-set, length-take}
 use borrow.Author.Needs.{needs}
+use Rattle.rewrite.proofs.Same.{read-of-all}
 use Rattle.rewrite.proofs.fed.Statement.{statement}
 use Rattle.rewrite.proofs.fed.Tie as tie
 
@@ -43,7 +44,11 @@ enum-known-r : tie.Need-enum-known-r
 enum-known-r c = search needs
 
 counted-requires : tie.Need-counted-requires
-counted-requires c κs = search needs
+counted-requires c κs =
+    let p = c .before .before .before in
+    let a = p .before .before .before .before .args in
+    let m = c .before .r .given in
+    read-of-all (set (a .s .window) (a .s .have) (a .b)) (a .s .have + 1) (p .parse-message .result) (m .0 .0) (m .0 .1 .0) (p .parse-message .ensures) (m .1)
 
 enum-told : tie.Need-enum-told
 enum-told c = search needs
