@@ -10,7 +10,7 @@ use lib.ListN.{length, getD}
 use lib.Seq.{drop-cons}
 use borrow.Author.Tests.{le-leb, lt-leb, leb-true}
 use Rattle.format.specs.Utf8.{wellFormed, firstBad}
-use Rattle.format.specs.Layout.{Kind, num, text, width, be, part, Verdict, fine, wrong, got, short, refused, judge, placed, field}
+use Rattle.format.specs.Layout.{Kind, num, text, width, be, part, member, Verdict, fine, wrong, got, short, refused, judge, placed, field}
 use Rattle.format.specs.Meaning.{faultM}
 use Rattle.format.specs.declared.Fault.{Fault}
 use Rattle.format.specs.declared.Fault.the-variants.{Short, Refused}
@@ -24,6 +24,18 @@ field-short k s at h = rw (lt-leb _ _ h)
 pub field-judged : (k : Kind) (s : List ℕ) (at : ℕ) → at + width k ≤ length s → field k s at ≡ placed at (judge k (part s at (width k)))
 unfolding field
 field-judged k s at h = rw (le-leb _ _ h)
+
+-- a field that gave a value: its bytes are all there, and are judged to be it
+placed-fine : (t : Bool) (at : ℕ) (x : Verdict) (v : ℕ) → cond t (placed at x) short ≡ got v → (t ≡ true) × (x ≡ fine v)
+placed-fine true at (fine u) v e = (refl, cc)
+placed-fine true at (wrong n o) v e = let z : _≡_ {A = ℕ} 0 1 = cc in absurd (omega arith)
+placed-fine false at x v e = let z : _≡_ {A = ℕ} 0 1 = cc in absurd (omega arith)
+
+pub field-fine : (k : Kind) (s : List ℕ) (at : ℕ) {v : ℕ} → field k s at ≡ got v → (at + width k ≤ length s) × (judge k (part s at (width k)) ≡ fine v)
+unfolding field
+field-fine k s at {v} e =
+    let h = placed-fine (leb (at + width k) (length s)) at (judge k (part s at (width k))) v e in
+    (leb-true (at + width k) (length s) (h .0), h .1)
 
 pub field-num : (w : ℕ) (s : List ℕ) (at : ℕ) {v : ℕ} → at + w ≤ length s → v ≡ be (part s at w) → got v ≡ field (num w) s at
 unfolding judge
@@ -55,27 +67,39 @@ text-fine w bs v =
     (λ t e. (t, cc))
     (λ t e. let z : _≡_ {A = ℕ} 0 1 = cc in absurd (omega arith))
 
--- a field of one byte: where there is no byte it is short, and else it is the judgement of that byte
-byte-there : (t : Bool) (b x : ℕ) → cond t (got b) short ≡ got x → (t ≡ true) × (b ≡ x)
-byte-there true b x e = (refl, cc)
-byte-there false b x e = let z : _≡_ {A = ℕ} 0 1 = cc in absurd (omega arith)
+-- a code's judgement, by cases, be it a code of one byte or the subtype; so one that has a value is of its set, and the value is the code
+pub code-cases : (P : Verdict → Type 0) (set : List ℕ) (v : ℕ) → (member v set ≡ true → P (fine v)) → (member v set ≡ false → P (wrong 2 0))
+    → P (cond (member v set) (fine v) (wrong 2 0))
+code-cases P set v f g = go (member v set) refl
+  where
+    go : (b : Bool) → member v set ≡ b → P (cond b (fine v) (wrong 2 0))
+    go true e = f e
+    go false e = g e
 
+pub code-fine : (set : List ℕ) (v w : ℕ) → cond (member v set) (fine v) (wrong 2 0) ≡ fine w → (member v set ≡ true) × (v ≡ w)
+code-fine set v w =
+    code-cases (λ x. x ≡ fine w → (member v set ≡ true) × (v ≡ w)) set v
+    (λ t e. (t, cc))
+    (λ t e. let z : _≡_ {A = ℕ} 0 1 = cc in absurd (omega arith))
+
+-- a field of one byte whose byte is there is the judgement of that byte
 pub one-byte : (k : Kind) (s : List ℕ) (at : ℕ) {b : ℕ} → width k ≡ 1 → field (num 1) s at ≡ got b → field k s at ≡ placed at (judge k (b ∷ []))
-unfolding field judge
+unfolding judge
 one-byte k s at {b} w e =
-    let h = byte-there (leb (at + 1) (length s)) (be (part s at 1)) b e in
-    let l : at < length s = omega (arith, leb-true (at + 1) (length s) (h .0)) in
+    let h = field-fine (num 1) s at e in
+    let l : at < length s = omega arith in
     let p : part s at 1 ≡ getD s at 0 ∷ [] = rw (drop-cons s at 0) in
-    let q : getD s at 0 ≡ b = sym (be-one s at l) ∙ h .1 in
-    rw w (rw (h .0, p, q))
+    let q : getD s at 0 ≡ b = sym (be-one s at l) ∙ cc (h .1) in
+    field-judged k s at (omega arith) ∙ rw (w, p, q)
 
-no-byte : (t : Bool) (b : ℕ) (e : Fault) → cond t (got b) short ≡ faultM e → (t ≡ false) × (faultM e ≡ short)
-no-byte true b Short q = let z : _≡_ {A = ℕ} 0 1 = cc in absurd (omega arith)
-no-byte true b (Refused n p) q = let z : _≡_ {A = ℕ} 0 1 = cc in absurd (omega arith)
-no-byte false b e q = (refl, sym q)
+-- a field that is short as a number of its width is short
+not-there : (t : Bool) (v : ℕ) (e : Fault) → cond t (got v) short ≡ faultM e → (t ≡ false) × (faultM e ≡ short)
+not-there true v Short q = let z : _≡_ {A = ℕ} 0 1 = cc in absurd (omega arith)
+not-there true v (Refused n p) q = let z : _≡_ {A = ℕ} 0 1 = cc in absurd (omega arith)
+not-there false v e q = (refl, sym q)
 
-pub one-short : (k : Kind) (s : List ℕ) (at : ℕ) (e : Fault) → width k ≡ 1 → field (num 1) s at ≡ faultM e → field k s at ≡ faultM e
+pub num-short : (k : Kind) (w : ℕ) (s : List ℕ) (at : ℕ) (e : Fault) → width k ≡ w → field (num w) s at ≡ faultM e → field k s at ≡ faultM e
 unfolding field judge
-one-short k s at e w q =
-    let h = no-byte (leb (at + 1) (length s)) (be (part s at 1)) e q in
-    rw w (rw (h .0, h .1))
+num-short k w s at e l q =
+    let h = not-there (leb (at + w) (length s)) (be (part s at w)) e q in
+    rw l (rw (h .0, h .1))

@@ -7,7 +7,7 @@ use Prim.Native.Nat.{ℕ, _+_, _<_, _≤_}
 use native.Mathlib.Omega.{arith}
 use lib.ListN.{length, getD, drop}
 use Rattle.format.specs.Layout.{Kind, width, be, part, Got, got, short, refused, field, Answer, accepted, incomplete, refuses, step, read}
-use Rattle.format.specs.Rows.{rows, Found, found, none, find, under, message, header, headerOf, bodyOf, window}
+use Rattle.format.specs.Rows.{rows, Found, found, none, find, under, message, headerOf, bodyOf, window}
 use Rattle.format.specs.Meaning.{stopM}
 use Rattle.format.specs.declared.Fault.{Fault}
 use Rattle.format.specs.declared.Fault.the-variants.{Short, Refused}

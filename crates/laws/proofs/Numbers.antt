@@ -7,10 +7,10 @@ use mathlib.Core.List.{List, [], _∷_, _++_}
 use native.Mathlib.Omega.{arith}
 use lib.Dec.{leb}
 use lib.ListN.{length, getD, drop}
-use Rattle.format.specs.Layout.{be, member, Kind, num, time, text, code, subtype, width, part, fine, wrong, placed, Got, got, short, refused, judge, field, Answer, accepted, incomplete, refuses, step, read}
+use Rattle.format.specs.Layout.{be, Kind, num, time, text, code, subtype, width, part, placed, Got, got, short, refused, judge, field, Answer, accepted, incomplete, refuses, step, read}
 use Rattle.format.specs.Codes.{subtypes}
 use Rattle.format.specs.Rows.{rows, Found, found, none, find, under, header, message, window}
-use Rattle.format.proofs.Fields.{text-cases}
+use Rattle.format.proofs.Fields.{text-cases, code-cases}
 use Rattle.reader.specs.declared.Window.the-variants.{Refused}
 use Rattle.reader.specs.Window.{windowFrom, windowOf}
 
@@ -24,17 +24,13 @@ data Whole : Answer → Type 0 where
   not-there : Whole incomplete
   low : {n p : ℕ} → (1 ≤ n) × (n ≤ 3) → Whole (refuses n p)
 
-judged : (b : Bool) (v n at : ℕ) → (1 ≤ n) × (n ≤ 3) → Field (placed at (cond b (fine v) (wrong n 0)))
-judged true v n at h = value
-judged false v n at h = bad h
-
 judge-low : (k : Kind) (bs : List ℕ) (at : ℕ) → Field (placed at (judge k bs))
 unfolding judge
 judge-low (num w) bs at = value
 judge-low time bs at = value
 judge-low (text w) bs at = text-cases (λ x. Field (placed at x)) w bs (λ _. value) (λ _. bad (omega arith, omega arith))
-judge-low (code set) bs at = judged (member (be bs) set) (be bs) 2 at (omega arith, omega arith)
-judge-low subtype bs at = judged (member (be bs) subtypes) (be bs) 2 at (omega arith, omega arith)
+judge-low (code set) bs at = code-cases (λ x. Field (placed at x)) set (be bs) (λ _. value) (λ _. bad (omega arith, omega arith))
+judge-low subtype bs at = code-cases (λ x. Field (placed at x)) subtypes (be bs) (λ _. value) (λ _. bad (omega arith, omega arith))
 
 there : (b : Bool) (g : Got) → Field g → Field (cond b g short)
 there true g p = p

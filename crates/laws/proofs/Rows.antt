@@ -10,7 +10,7 @@ use native.Mathlib.Omega.{arith}
 use lib.ListN.{length, drop, length-append, length-drop}
 use lib.Seq.{take-append-le, drop-append-le}
 use Rattle.format.specs.Layout.{Kind, width, widths, part, Verdict, fine, wrong, placed, Got, got, short, refused, judge, field, Answer, accepted, incomplete, step, read}
-use Rattle.format.proofs.Fields.{field-short, field-judged}
+use Rattle.format.proofs.Fields.{field-short, field-judged, field-fine}
 use Rattle.format.proofs.Tests.{le-or-lt}
 use Rattle.format.proofs.Runs.{Reads, end, _⨾_}
 
@@ -81,15 +81,8 @@ all-read (k ∷ ks) s at acc go vs n e = next (field k s at) refl e (λ v. all-r
     next short q e′ rest = let z : _≡_ {A = ℕ} 0 1 = cc in absurd (omega arith)
     next (refused a b) q e′ rest = let z : _≡_ {A = ℕ} 0 1 = cc in absurd (omega arith)
 
-pub field-has : (k : Kind) (s : List ℕ) (at : ℕ) {v : ℕ} → field k s at ≡ got v → at + width k ≤ length s
-field-has k s at e =
-    ⊎-elim (λ l. l)
-    (λ l. let q : short ≡ field k s at = field-short k s at l in let z : _≡_ {A = ℕ} 0 1 = cc in absurd (omega arith))
-    (le-or-lt (at + width k) (length s))
-
 -- the bytes of fields that have their values are there
 pub covers : {s : List ℕ} {ks : List Kind} {at : ℕ} {vs : List ℕ} → Reads s ks at vs → at ≤ length s → at + widths ks ≤ length s
 covers end l = omega arith
 covers {s} (_⨾_ {k = k} {ks = ks} {at = at} e r) l =
-    let h : at + width k ≤ length s = field-has k s at e in
-    omega (arith, covers r h)
+    omega (arith, covers r (field-fine k s at e .0))

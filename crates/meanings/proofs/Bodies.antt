@@ -10,13 +10,13 @@ use lib.Dec.{eqb, leb}
 use lib.ListN.{length}
 use Rattle.format.specs.Ascii.{'A', 'B', 'C', 'D', 'E', 'F', 'H', 'I', 'J', 'K', 'L', 'N', 'P', 'Q', 'R', 'S', 'U', 'V', 'W', 'X', 'Y'}
 use Rattle.format.specs.Codes.{subtypes}
-use Rattle.format.specs.Layout.{Kind, num, time, text, code, subtype, width, be, part, member, fine, wrong, placed, Got, got, short, refused, judge, field, accepted}
+use Rattle.format.specs.Layout.{Kind, num, time, text, code, subtype, width, be, part, member, fine, judge, accepted}
 use Rattle.format.specs.Rows.{Row, rows, Found, found, none, find, fieldsIn, under, bodyOf}
-use Rattle.format.proofs.Fields.{text-cases}
+use Rattle.format.proofs.Fields.{field-fine, code-fine}
 use Rattle.format.proofs.Runs.{Reads, end, _⨾_}
 use Rattle.laws.proofs.Rows.{all-read}
 use Rattle.records.specs.Values.{values, bodyFrom}
-use Rattle.meanings.proofs.Codes.{event-code, category-code, status-code, class-code, tier-code, makerMode-code, participantState-code, action-code, tradingState-code, side-code, direction-code, cross-code, imbalance-code, qualifier-code, level-code, interest-code, flag-code, etpFlag-code, yesNo-code, authenticity-code, subtype-code}
+use Rattle.codes.proofs.Codes.{event-coded, category-coded, status-coded, class-coded, tier-coded, makerMode-coded, participantState-coded, action-coded, tradingState-coded, side-coded, direction-coded, cross-coded, imbalanceCross-coded, qualifier-coded, level-coded, interest-coded, flag-coded, etpFlag-coded, yesNo-coded, authenticity-coded, subtype-coded}
 
 -- what a field of a kind gives
 data Gives : Kind → ℕ → Type 0 where
@@ -32,40 +32,18 @@ data Row-gives : List Kind → List ℕ → Type 0 where
   _&_ : {k : Kind} {ks : List Kind} {v : ℕ} {vs : List ℕ} → Gives k v → Row-gives ks vs → Row-gives (k ∷ ks) (v ∷ vs)
 
 infixr 30 _&_
--- a field that is judged and has a value
-data Has (k : Kind) : Got → Type 0 where
-  value : {v : ℕ} → Gives k v → Has k (got v)
-  not-there : Has k short
-  bad : {n p : ℕ} → Has k (refused n p)
-
-tested : (k : Kind) (b : Bool) (v n at : ℕ) → (b ≡ true → Gives k v) → Has k (placed at (cond b (fine v) (wrong n 0)))
-tested k true v n at f = value (f refl)
-tested k false v n at f = bad
-
-judged : (k : Kind) (bs : List ℕ) (at : ℕ) → Has k (placed at (judge k bs))
+-- bytes that are judged to be a value
+gives : (k : Kind) (bs : List ℕ) (v : ℕ) → judge k bs ≡ fine v → Gives k v
 unfolding judge
-judged (num w) bs at = value a-number
-judged time bs at = value a-time
-judged (text w) bs at = text-cases (λ x. Has (text w) (placed at x)) w bs (λ _. value a-text) (λ _. bad)
-judged (code set) bs at = tested (code set) (member (be bs) set) (be bs) 2 at a-code
-judged subtype bs at = tested subtype (member (be bs) subtypes) (be bs) 2 at a-subtype
-
-there : (k : Kind) (b : Bool) (g : Got) → Has k g → Has k (cond b g short)
-there k true g p = p
-there k false g p = not-there
-
-field-has : (k : Kind) (s : List ℕ) (at : ℕ) → Has k (field k s at)
-unfolding field
-field-has k s at = there k (leb (at + width k) (length s)) (placed at (judge k (part s at (width k)))) (judged k (part s at (width k)) at)
-
-gives : (k : Kind) (g : Got) (v : ℕ) → Has k g → g ≡ got v → Gives k v
-gives k _ v (value {v = u} p) e = let q : u ≡ v = cc in rw (sym q) p
-gives k _ v not-there e = let z : _≡_ {A = ℕ} 0 1 = cc in absurd (omega arith)
-gives k _ v bad e = let z : _≡_ {A = ℕ} 0 1 = cc in absurd (omega arith)
+gives (num w) bs v e = a-number
+gives time bs v e = a-time
+gives (text w) bs v e = a-text
+gives (code set) bs v e = let h = code-fine set (be bs) v e in a-code (rw (h .1) at (h .0))
+gives subtype bs v e = let h = code-fine subtypes (be bs) v e in a-subtype (rw (h .1) at (h .0))
 
 row-gives : {s : List ℕ} {ks : List Kind} {at : ℕ} {vs : List ℕ} → Reads s ks at vs → Row-gives ks vs
 row-gives end = none-left
-row-gives {s} (_⨾_ {k = k} {at = at} {v = v} e r) = gives k (field k s at) v (field-has k s at) e & row-gives r
+row-gives {s} (_⨾_ {k = k} {at = at} {v = v} e r) = gives k (part s at (width k)) v (field-fine k s at e .1) & row-gives r
 
 -- ---- row by row: the values of the body made of a row's values
 
@@ -74,11 +52,11 @@ SameValues t = (vs : List ℕ) → Row-gives (fieldsIn (find rows t)) vs → val
 
 row-A : SameValues 'A'
 unfolding bodyFrom
-row-A _ (a-number & a-code s & a-number & a-text & a-number & none-left) = simp (side-code _ s)
+row-A _ (a-number & a-code s & a-number & a-text & a-number & none-left) = simp (side-coded .back _ s)
 
 row-F : SameValues 'F'
 unfolding bodyFrom
-row-F _ (a-number & a-code s & a-number & a-text & a-number & a-text & none-left) = simp (side-code _ s)
+row-F _ (a-number & a-code s & a-number & a-text & a-number & a-text & none-left) = simp (side-coded .back _ s)
 
 row-B : SameValues 'B'
 unfolding bodyFrom
@@ -90,7 +68,7 @@ row-D _ (a-number & none-left) = refl
 
 row-C : SameValues 'C'
 unfolding bodyFrom
-row-C _ (a-number & a-number & a-number & a-code y & a-number & none-left) = simp (yesNo-code _ y)
+row-C _ (a-number & a-number & a-number & a-code y & a-number & none-left) = simp (yesNo-coded .back _ y)
 
 row-E : SameValues 'E'
 unfolding bodyFrom
@@ -98,11 +76,11 @@ row-E _ (a-number & a-number & a-number & none-left) = refl
 
 row-H : SameValues 'H'
 unfolding bodyFrom
-row-H _ (a-text & a-code c & a-number & a-text & none-left) = simp (tradingState-code _ c)
+row-H _ (a-text & a-code c & a-number & a-text & none-left) = simp (tradingState-coded .back _ c)
 
 row-I : SameValues 'I'
 unfolding bodyFrom
-row-I _ (a-number & a-number & a-code d & a-text & a-number & a-number & a-number & a-code x & a-number & none-left) = simp (direction-code _ d, imbalance-code _ x)
+row-I _ (a-number & a-number & a-code d & a-text & a-number & a-number & a-number & a-code x & a-number & none-left) = simp (direction-coded .back _ d, imbalanceCross-coded .back _ x)
 
 row-J : SameValues 'J'
 unfolding bodyFrom
@@ -110,31 +88,31 @@ row-J _ (a-text & a-number & a-number & a-number & a-number & none-left) = refl
 
 row-K : SameValues 'K'
 unfolding bodyFrom
-row-K _ (a-text & a-number & a-code q & a-number & none-left) = simp (qualifier-code _ q)
+row-K _ (a-text & a-number & a-code q & a-number & none-left) = simp (qualifier-coded .back _ q)
 
 row-L : SameValues 'L'
 unfolding bodyFrom
-row-L _ (a-text & a-text & a-code y & a-code m & a-code p & none-left) = simp (yesNo-code _ y, makerMode-code _ m, participantState-code _ p)
+row-L _ (a-text & a-text & a-code y & a-code m & a-code p & none-left) = simp (yesNo-coded .back _ y, makerMode-coded .back _ m, participantState-coded .back _ p)
 
 row-N : SameValues 'N'
 unfolding bodyFrom
-row-N _ (a-text & a-code i & none-left) = simp (interest-code _ i)
+row-N _ (a-text & a-code i & none-left) = simp (interest-coded .back _ i)
 
 row-P : SameValues 'P'
 unfolding bodyFrom
-row-P _ (a-number & a-code s & a-number & a-text & a-number & a-number & none-left) = simp (side-code _ s)
+row-P _ (a-number & a-code s & a-number & a-text & a-number & a-number & none-left) = simp (side-coded .back _ s)
 
 row-Q : SameValues 'Q'
 unfolding bodyFrom
-row-Q _ (a-number & a-text & a-number & a-number & a-code x & none-left) = simp (cross-code _ x)
+row-Q _ (a-number & a-text & a-number & a-number & a-code x & none-left) = simp (cross-coded .back _ x)
 
 row-R : SameValues 'R'
 unfolding bodyFrom
-row-R _ (a-text & a-code c & a-code f & a-number & a-code y & a-code i & a-subtype u & a-code p & a-code h & a-code o & a-code l & a-code e & a-number & a-code v & none-left) = simp (category-code _ c, status-code _ f, yesNo-code _ y, class-code _ i, subtype-code _ u, authenticity-code _ p, flag-code _ h, flag-code _ o, tier-code _ l, etpFlag-code _ e, yesNo-code _ v)
+row-R _ (a-text & a-code c & a-code f & a-number & a-code y & a-code i & a-subtype u & a-code p & a-code h & a-code o & a-code l & a-code e & a-number & a-code v & none-left) = simp (category-coded .back _ c, status-coded .back _ f, yesNo-coded .back _ y, class-coded .back _ i, subtype-coded .back _ u, authenticity-coded .back _ p, flag-coded .back _ h, flag-coded .back _ o, tier-coded .back _ l, etpFlag-coded .back _ e, yesNo-coded .back _ v)
 
 row-S : SameValues 'S'
 unfolding bodyFrom
-row-S _ (a-code e & none-left) = simp (event-code _ e)
+row-S _ (a-code e & none-left) = simp (event-coded .back _ e)
 
 row-U : SameValues 'U'
 unfolding bodyFrom
@@ -146,7 +124,7 @@ row-V _ (a-number & a-number & a-number & none-left) = refl
 
 row-W : SameValues 'W'
 unfolding bodyFrom
-row-W _ (a-code l & none-left) = simp (level-code _ l)
+row-W _ (a-code l & none-left) = simp (level-coded .back _ l)
 
 row-X : SameValues 'X'
 unfolding bodyFrom
@@ -154,7 +132,7 @@ row-X _ (a-number & a-number & none-left) = refl
 
 row-Y : SameValues 'Y'
 unfolding bodyFrom
-row-Y _ (a-text & a-code a & none-left) = simp (action-code _ a)
+row-Y _ (a-text & a-code a & none-left) = simp (action-coded .back _ a)
 
 data Each (P : ℕ → Type 0) : List Row → Type 0 where
   no-rows : Each P []

@@ -16,7 +16,7 @@ use Rattle.format.specs.declared.Fault.{Fault}
 use Rattle.format.specs.declared.Num8.{Num8}
 use Rattle.format.specs.declared.Num8.the-variants.{Got as Got8, No as No8}
 use Rattle.format.proofs.Tests.{both, is-true}
-use Rattle.format.proofs.Fields.{one-byte, one-short}
+use Rattle.format.proofs.Fields.{one-byte, num-short}
 
 -- the codes that a match names one by one, and those that it names by a range, are in a set if the set has them all
 abbrev within : List ℕ → List ℕ → Bool
@@ -48,7 +48,7 @@ in-range set lo (suc n) b t l h = go (eqb b lo) refl (in-range set (lo + 1) n b 
 
 -- no byte
 pub code-short : (k : Kind) (s : List ℕ) (at : ℕ) {f : Num8} {e : Fault} → width k ≡ 1 → num8M f ≡ field (num 1) s at → f ≡ No8 e → num8M f ≡ field k s at
-code-short k s at {f} {e} w p q = ap num8M q ∙ sym (one-short k s at e w (sym p ∙ ap num8M q))
+code-short k s at {f} {e} w p q = ap num8M q ∙ sym (num-short k 1 s at e w (sym p ∙ ap num8M q))
 
 judged-code : (set : List ℕ) (b : ℕ) → judge (code set) (b ∷ []) ≡ cond (member b set) (fine b) (wrong 2 0)
 unfolding judge

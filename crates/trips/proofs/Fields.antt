@@ -11,12 +11,11 @@ use lib.ListN.{length, getD, take, drop, length-append}
 use lib.Seq.{take-at, drop-append-seam}
 use Rattle.format.specs.Codes.{subtypes}
 use Rattle.format.specs.Utf8.{wellFormed}
-use Rattle.format.specs.Layout.{Kind, num, time, text, code, subtype, width, widths, be, part, member, Verdict, fine, wrong, judge, got, placed, field}
+use Rattle.format.specs.Layout.{Kind, num, time, text, code, subtype, width, widths, be, part, member, fine, judge, got, placed, field}
 use Rattle.format.proofs.Bytes.{Bytes, be-snoc, part-split, part-more}
-use Rattle.format.proofs.Fields.{field-judged, text-fine}
+use Rattle.format.proofs.Fields.{field-judged, field-fine, text-fine, code-fine}
 use Rattle.format.proofs.Runs.{Reads, end, _⨾_}
 use Rattle.format.proofs.Tests.{and-split}
-use Rattle.laws.proofs.Rows.{field-has}
 use Rattle.pen.specs.Encode.{digits, write, textFine, textsFine, Sized}
 use Rattle.pen.proofs.Digits.{length-digits}
 
@@ -97,10 +96,6 @@ record Took (k : Kind) (bs : List ℕ) (v : ℕ) : Type 0 where
   pub texts : textFine k v ≡ true
   pub codes : codeFine k v ≡ true
 
-cond-fine : (b : Bool) (x v n : ℕ) → cond b (fine x) (wrong n 0) ≡ fine v → (b ≡ true) × (x ≡ v)
-cond-fine true x v n e = (refl, cc)
-cond-fine false x v n e = let z : _≡_ {A = ℕ} 0 1 = cc in absurd (omega arith)
-
 took : (k : Kind) (bs : List ℕ) (v : ℕ) → digits (width k) (be bs) ≡ bs → judge k bs ≡ fine v → Took k bs v
 unfolding judge
 took (num w) bs v d e = let q : be bs ≡ v = cc in subst (Took (num w) bs) q (record { bytes = d; texts = refl; codes = refl })
@@ -109,15 +104,11 @@ took (text w) bs v d e =
     let p = text-fine w bs v e in
     subst (Took (text w) bs) (p .1) (record { bytes = d; texts = ap wellFormed d ∙ p .0; codes = refl })
 took (code set) bs v d e =
-    let p = cond-fine (member (be bs) set) (be bs) v 2 e in
+    let p = code-fine set (be bs) v e in
     subst (Took (code set) bs) (p .1) (record { bytes = d; texts = refl; codes = p .0 })
 took subtype bs v d e =
-    let p = cond-fine (member (be bs) subtypes) (be bs) v 2 e in
+    let p = code-fine subtypes (be bs) v e in
     subst (Took subtype bs) (p .1) (record { bytes = d; texts = refl; codes = p .0 })
-
-placed-got : (at : ℕ) (x : Verdict) (v : ℕ) → placed at x ≡ got v → x ≡ fine v
-placed-got at (fine w) v e = cc
-placed-got at (wrong n o) v e = let z : _≡_ {A = ℕ} 0 1 = cc in absurd (omega arith)
 
 -- writing what was read gives its bytes; its texts are UTF-8 and its codes legal
 pub took-row : {s : List ℕ} {ks : List Kind} {at : ℕ} {vs : List ℕ} → Reads s ks at vs → Bytes s
@@ -125,8 +116,8 @@ pub took-row : {s : List ℕ} {ks : List Kind} {at : ℕ} {vs : List ℕ} → Re
 took-row end b = (refl, refl, refl)
 took-row {s} (_⨾_ {k = k} {ks = ks} {at = at} {v = v} {vs = vs} e r) b =
     let bs : List ℕ = part s at (width k) in
-    let l : at + width k ≤ length s = field-has k s at e in
-    let t : Took k bs v = took k bs v (digits-be s at (width k) b l) (placed-got at (judge k bs) v (sym (field-judged k s at l) ∙ e)) in
+    let f = field-fine k s at e in
+    let t : Took k bs v = took k bs v (digits-be s at (width k) b (f .0)) (f .1) in
     let g = took-row r b in (
       ap (λ x. x ++ write ks vs) (t .bytes) ∙ ap (λ x. bs ++ x) (g .0) ∙ sym (part-split s at (width k) (widths ks)),
       ap (λ x. x && textsFine ks vs) (t .texts) ∙ g .1,

@@ -4,7 +4,7 @@ use mathlib.Core.Path.{refl}
 use Rattle.format.specs.Ascii.{'W'}
 use Rattle.format.specs.Meaning.{fault8, num8M}
 use Rattle.format.proofs.Runs.{value, fault, body-stops, body-reads, end, _⨾_, start}
-use Rattle.codes.proofs.Codes.{level-named}
+use Rattle.codes.proofs.Codes.{named, level-coded}
 use borrow.Author.Needs.{needs}
 use Rattle.notices.proofs.parse_breach.Statement.{statement}
 use Rattle.notices.proofs.parse_breach.Tie as tie
@@ -31,7 +31,7 @@ level-of-requires c κs = search needs
 returns-2 : tie.Need-returns-2
 returns-2 c =
     body-reads 'W' _ refl
-    (level-named _ _ (value num8M (c .before .before .before .before .level-at .ensures) (c .before .before .f1 .given .1)) (c .level-of .ensures)
+    (named level-coded _ _ (value num8M (c .before .before .before .before .level-at .ensures) (c .before .before .f1 .given .1)) (c .level-of .ensures)
     ⨾ end)
 
 pub parse-breach-spec : {M : Type 1} → statement M

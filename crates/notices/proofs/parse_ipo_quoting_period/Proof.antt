@@ -5,7 +5,7 @@ use mathlib.Core.Path.{refl}
 use Rattle.format.specs.Ascii.{'K'}
 use Rattle.format.specs.Meaning.{fault32, fault64, fault8, num32M, num64M, num8M}
 use Rattle.format.proofs.Runs.{value, fault, body-stops, body-reads, end, _⨾_, start, _▹_, Past}
-use Rattle.codes.proofs.Codes.{qualifier-named}
+use Rattle.codes.proofs.Codes.{named, qualifier-coded}
 use borrow.Author.Needs.{needs}
 use Rattle.notices.proofs.parse_ipo_quoting_period.Statement.{statement}
 use Rattle.notices.proofs.parse_ipo_quoting_period.Tie as tie
@@ -95,7 +95,7 @@ returns-5 c =
     body-reads 'K' _ refl
     (value num64M (p1 .before .before .text8 .ensures) (p1 .f1 .given .1)
     ⨾ value num32M (p2 .before .before .be-u32 .ensures) (p2 .f2 .given .1)
-    ⨾ qualifier-named _ _ (value num8M (p3 .before .before .qualifier-at .ensures) (p3 .f3 .given .1)) (c .qualifier-of .ensures)
+    ⨾ named qualifier-coded _ _ (value num8M (p3 .before .before .qualifier-at .ensures) (p3 .f3 .given .1)) (c .qualifier-of .ensures)
     ⨾ value num32M (p4 .before .before .be-u322 .ensures) (p4 .f4 .given .1)
     ⨾ end)
 

@@ -5,7 +5,7 @@ use mathlib.Core.Path.{refl}
 use Rattle.format.specs.Ascii.{'L'}
 use Rattle.format.specs.Meaning.{fault32, fault64, fault8, num32M, num64M, num8M}
 use Rattle.format.proofs.Runs.{value, fault, body-stops, body-reads, end, _⨾_, start, _▹_, Past}
-use Rattle.codes.proofs.Codes.{makerMode-named, participantState-named, yesNo-named}
+use Rattle.codes.proofs.Codes.{named, makerMode-coded, participantState-coded, yesNo-coded}
 use borrow.Author.Needs.{needs}
 use Rattle.notices.proofs.parse_participant_position.Statement.{statement}
 use Rattle.notices.proofs.parse_participant_position.Tie as tie
@@ -121,9 +121,9 @@ returns-6 c =
     body-reads 'L' _ refl
     (value num32M (p1 .before .before .text4 .ensures) (p1 .f1 .given .1)
     ⨾ value num64M (p2 .before .before .text8 .ensures) (p2 .f2 .given .1)
-    ⨾ yesNo-named _ _ (value num8M (p3 .before .before .yes-no-at .ensures) (p3 .f3 .given .1)) (c .before .before .yes-no-of .ensures)
-    ⨾ makerMode-named _ _ (value num8M (p4 .before .before .maker-mode-at .ensures) (p4 .f4 .given .1)) (c .before .maker-mode-of .ensures)
-    ⨾ participantState-named _ _ (value num8M (p5 .before .before .participant-state-at .ensures) (p5 .f5 .given .1)) (c .participant-state-of .ensures)
+    ⨾ named yesNo-coded _ _ (value num8M (p3 .before .before .yes-no-at .ensures) (p3 .f3 .given .1)) (c .before .before .yes-no-of .ensures)
+    ⨾ named makerMode-coded _ _ (value num8M (p4 .before .before .maker-mode-at .ensures) (p4 .f4 .given .1)) (c .before .maker-mode-of .ensures)
+    ⨾ named participantState-coded _ _ (value num8M (p5 .before .before .participant-state-at .ensures) (p5 .f5 .given .1)) (c .participant-state-of .ensures)
     ⨾ end)
 
 pub parse-participant-position-spec : {M : Type 1} → statement M

@@ -5,7 +5,7 @@ use mathlib.Core.Path.{refl}
 use Rattle.format.specs.Ascii.{'Y'}
 use Rattle.format.specs.Meaning.{fault64, fault8, num64M, num8M}
 use Rattle.format.proofs.Runs.{value, fault, body-stops, body-reads, end, _⨾_, start, _▹_, Past}
-use Rattle.codes.proofs.Codes.{action-named}
+use Rattle.codes.proofs.Codes.{named, action-coded}
 use borrow.Author.Needs.{needs}
 use Rattle.notices.proofs.parse_reg_sho_restriction.Statement.{statement}
 use Rattle.notices.proofs.parse_reg_sho_restriction.Tie as tie
@@ -54,7 +54,7 @@ returns-3 c =
     let p1 = p2 .before .before .before .before in
     body-reads 'Y' _ refl
     (value num64M (p1 .before .before .text8 .ensures) (p1 .f1 .given .1)
-    ⨾ action-named _ _ (value num8M (p2 .before .before .action-at .ensures) (p2 .f2 .given .1)) (c .action-of .ensures)
+    ⨾ named action-coded _ _ (value num8M (p2 .before .before .action-at .ensures) (p2 .f2 .given .1)) (c .action-of .ensures)
     ⨾ end)
 
 pub parse-reg-sho-restriction-spec : {M : Type 1} → statement M

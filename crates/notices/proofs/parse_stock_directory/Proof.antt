@@ -6,7 +6,7 @@ use Rattle.format.specs.Ascii.{'R'}
 use Rattle.format.specs.Meaning.{fault32, fault64, fault8, num32M, num64M, num8M}
 use Rattle.format.proofs.Runs.{value, fault, body-stops, body-reads, end, _⨾_, start, _▹_, Past}
 use Rattle.codes.specs.Names.{subtypeFault, subtypeM}
-use Rattle.codes.proofs.Codes.{authenticity-named, category-named, class-named, etpFlag-named, flag-named, status-named, tier-named, yesNo-named}
+use Rattle.codes.proofs.Codes.{named, authenticity-coded, category-coded, class-coded, etpFlag-coded, flag-coded, status-coded, tier-coded, yesNo-coded}
 use borrow.Author.Needs.{needs}
 use Rattle.notices.proofs.parse_stock_directory.Statement.{statement}
 use Rattle.notices.proofs.parse_stock_directory.Tie as tie
@@ -322,19 +322,19 @@ returns-15 c =
     let p1 = p2 .before .before .before .before in
     body-reads 'R' _ refl
     (value num64M (p1 .before .before .text8 .ensures) (p1 .f1 .given .1)
-    ⨾ category-named _ _ (value num8M (p2 .before .before .category-at .ensures) (p2 .f2 .given .1)) (c .before .before .before .before .before .before .before .before .before .category-of .ensures)
-    ⨾ status-named _ _ (value num8M (p3 .before .before .status-at .ensures) (p3 .f3 .given .1)) (c .before .before .before .before .before .before .before .before .status-of .ensures)
+    ⨾ named category-coded _ _ (value num8M (p2 .before .before .category-at .ensures) (p2 .f2 .given .1)) (c .before .before .before .before .before .before .before .before .before .category-of .ensures)
+    ⨾ named status-coded _ _ (value num8M (p3 .before .before .status-at .ensures) (p3 .f3 .given .1)) (c .before .before .before .before .before .before .before .before .status-of .ensures)
     ⨾ value num32M (p4 .before .before .be-u32 .ensures) (p4 .f4 .given .1)
-    ⨾ yesNo-named _ _ (value num8M (p5 .before .before .yes-no-at .ensures) (p5 .f5 .given .1)) (c .before .before .before .before .before .before .before .yes-no-of .ensures)
-    ⨾ class-named _ _ (value num8M (p6 .before .before .class-at .ensures) (p6 .f6 .given .1)) (c .before .before .before .before .before .before .class-of .ensures)
+    ⨾ named yesNo-coded _ _ (value num8M (p5 .before .before .yes-no-at .ensures) (p5 .f5 .given .1)) (c .before .before .before .before .before .before .before .yes-no-of .ensures)
+    ⨾ named class-coded _ _ (value num8M (p6 .before .before .class-at .ensures) (p6 .f6 .given .1)) (c .before .before .before .before .before .before .class-of .ensures)
     ⨾ value subtypeM (p7 .before .before .subtype-at .ensures) (p7 .f7 .given .1)
-    ⨾ authenticity-named _ _ (value num8M (p8 .before .before .authenticity-at .ensures) (p8 .f8 .given .1)) (c .before .before .before .before .before .authenticity-of .ensures)
-    ⨾ flag-named _ _ (value num8M (p9 .before .before .flag-at .ensures) (p9 .f9 .given .1)) (c .before .before .before .before .flag-of .ensures)
-    ⨾ flag-named _ _ (value num8M (p10 .before .before .flag-at2 .ensures) (p10 .f10 .given .1)) (c .before .before .before .flag-of2 .ensures)
-    ⨾ tier-named _ _ (value num8M (p11 .before .before .tier-at .ensures) (p11 .f11 .given .1)) (c .before .before .tier-of .ensures)
-    ⨾ etpFlag-named _ _ (value num8M (p12 .before .before .etp-flag-at .ensures) (p12 .f12 .given .1)) (c .before .etp-flag-of .ensures)
+    ⨾ named authenticity-coded _ _ (value num8M (p8 .before .before .authenticity-at .ensures) (p8 .f8 .given .1)) (c .before .before .before .before .before .authenticity-of .ensures)
+    ⨾ named flag-coded _ _ (value num8M (p9 .before .before .flag-at .ensures) (p9 .f9 .given .1)) (c .before .before .before .before .flag-of .ensures)
+    ⨾ named flag-coded _ _ (value num8M (p10 .before .before .flag-at2 .ensures) (p10 .f10 .given .1)) (c .before .before .before .flag-of2 .ensures)
+    ⨾ named tier-coded _ _ (value num8M (p11 .before .before .tier-at .ensures) (p11 .f11 .given .1)) (c .before .before .tier-of .ensures)
+    ⨾ named etpFlag-coded _ _ (value num8M (p12 .before .before .etp-flag-at .ensures) (p12 .f12 .given .1)) (c .before .etp-flag-of .ensures)
     ⨾ value num32M (p13 .before .before .be-u322 .ensures) (p13 .f13 .given .1)
-    ⨾ yesNo-named _ _ (value num8M (p14 .before .before .yes-no-at2 .ensures) (p14 .f14 .given .1)) (c .yes-no-of2 .ensures)
+    ⨾ named yesNo-coded _ _ (value num8M (p14 .before .before .yes-no-at2 .ensures) (p14 .f14 .given .1)) (c .yes-no-of2 .ensures)
     ⨾ end)
 
 pub parse-stock-directory-spec : {M : Type 1} → statement M

@@ -4,7 +4,7 @@ use mathlib.Core.Path.{refl}
 use Rattle.format.specs.Ascii.{'S'}
 use Rattle.format.specs.Meaning.{fault8, num8M}
 use Rattle.format.proofs.Runs.{value, fault, body-stops, body-reads, end, _⨾_, start}
-use Rattle.codes.proofs.Codes.{event-named}
+use Rattle.codes.proofs.Codes.{named, event-coded}
 use borrow.Author.Needs.{needs}
 use Rattle.notices.proofs.parse_system_event.Statement.{statement}
 use Rattle.notices.proofs.parse_system_event.Tie as tie
@@ -31,7 +31,7 @@ event-of-requires c κs = search needs
 returns-2 : tie.Need-returns-2
 returns-2 c =
     body-reads 'S' _ refl
-    (event-named _ _ (value num8M (c .before .before .before .before .event-at .ensures) (c .before .before .f1 .given .1)) (c .event-of .ensures)
+    (named event-coded _ _ (value num8M (c .before .before .before .before .event-at .ensures) (c .before .before .f1 .given .1)) (c .event-of .ensures)
     ⨾ end)
 
 pub parse-system-event-spec : {M : Type 1} → statement M

@@ -5,7 +5,7 @@ use mathlib.Core.Path.{refl}
 use Rattle.format.specs.Ascii.{'H'}
 use Rattle.format.specs.Meaning.{fault32, fault64, fault8, num32M, num64M, num8M}
 use Rattle.format.proofs.Runs.{value, fault, body-stops, body-reads, end, _⨾_, start, _▹_, Past}
-use Rattle.codes.proofs.Codes.{tradingState-named}
+use Rattle.codes.proofs.Codes.{named, tradingState-coded}
 use borrow.Author.Needs.{needs}
 use Rattle.notices.proofs.parse_trading_action.Statement.{statement}
 use Rattle.notices.proofs.parse_trading_action.Tie as tie
@@ -94,7 +94,7 @@ returns-5 c =
     let p1 = p2 .before .before .before .before in
     body-reads 'H' _ refl
     (value num64M (p1 .before .before .text8 .ensures) (p1 .f1 .given .1)
-    ⨾ tradingState-named _ _ (value num8M (p2 .before .before .trading-state-at .ensures) (p2 .f2 .given .1)) (c .trading-state-of .ensures)
+    ⨾ named tradingState-coded _ _ (value num8M (p2 .before .before .trading-state-at .ensures) (p2 .f2 .given .1)) (c .trading-state-of .ensures)
     ⨾ value num8M (p3 .before .before .be-u8 .ensures) (p3 .f3 .given .1)
     ⨾ value num32M (p4 .before .before .text4 .ensures) (p4 .f4 .given .1)
     ⨾ end)

@@ -11,7 +11,7 @@ use Rattle.format.specs.Layout.{Kind, text, widths}
 use Rattle.format.specs.Rows.{row, order, rows, found, find}
 use Rattle.format.specs.Meaning.{fault8, fault32, fault64, num8M, num32M, num64M}
 use Rattle.format.proofs.Runs.{value, fault, body-stops, body-reads, end, _⨾_, start, _▹_, Upto}
-use Rattle.codes.proofs.Codes.{side-named}
+use Rattle.codes.proofs.Codes.{named, side-coded}
 use borrow.Author.Needs.{needs}
 use Rattle.orders.proofs.parse_add_order.Statement.{statement}
 use Rattle.orders.proofs.parse_add_order.Tie as tie
@@ -153,7 +153,7 @@ returns-7 c =
     rw (c .before .before .before .before .before .if1 .taken)
     (body-reads 'F' _ refl
     (value num64M (p1 .before .before .be-u64 .ensures) (p1 .f1 .given .1)
-    ⨾ side-named _ _ (value num8M (p2 .before .before .side-at .ensures) (p2 .f2 .given .1)) (c .side-of .ensures)
+    ⨾ named side-coded _ _ (value num8M (p2 .before .before .side-at .ensures) (p2 .f2 .given .1)) (c .side-of .ensures)
     ⨾ value num32M (p3 .before .before .be-u32 .ensures) (p3 .f3 .given .1)
     ⨾ value num64M (p4 .before .before .text8 .ensures) (p4 .f4 .given .1)
     ⨾ value num32M (p5 .before .before .be-u322 .ensures) (p5 .f5 .given .1)
@@ -173,7 +173,7 @@ returns-8 c =
     rw (c .before .if1 .left)
     (body-reads 'A' _ refl
     (value num64M (p1 .before .before .be-u64 .ensures) (p1 .f1 .given .1)
-    ⨾ side-named _ _ (value num8M (p2 .before .before .side-at .ensures) (p2 .f2 .given .1)) (c .side-of2 .ensures)
+    ⨾ named side-coded _ _ (value num8M (p2 .before .before .side-at .ensures) (p2 .f2 .given .1)) (c .side-of2 .ensures)
     ⨾ value num32M (p3 .before .before .be-u32 .ensures) (p3 .f3 .given .1)
     ⨾ value num64M (p4 .before .before .text8 .ensures) (p4 .f4 .given .1)
     ⨾ value num32M (p5 .before .before .be-u322 .ensures) (p5 .f5 .given .1)

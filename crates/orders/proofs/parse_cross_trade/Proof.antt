@@ -5,7 +5,7 @@ use mathlib.Core.Path.{refl}
 use Rattle.format.specs.Ascii.{'Q'}
 use Rattle.format.specs.Meaning.{fault32, fault64, fault8, num32M, num64M, num8M}
 use Rattle.format.proofs.Runs.{value, fault, body-stops, body-reads, end, _⨾_, start, _▹_, Past}
-use Rattle.codes.proofs.Codes.{cross-named}
+use Rattle.codes.proofs.Codes.{named, cross-coded}
 use borrow.Author.Needs.{needs}
 use Rattle.orders.proofs.parse_cross_trade.Statement.{statement}
 use Rattle.orders.proofs.parse_cross_trade.Tie as tie
@@ -117,7 +117,7 @@ returns-6 c =
     ⨾ value num64M (p2 .before .before .text8 .ensures) (p2 .f2 .given .1)
     ⨾ value num32M (p3 .before .before .be-u32 .ensures) (p3 .f3 .given .1)
     ⨾ value num64M (p4 .before .before .be-u642 .ensures) (p4 .f4 .given .1)
-    ⨾ cross-named _ _ (value num8M (p5 .before .before .cross-at .ensures) (p5 .f5 .given .1)) (c .cross-of .ensures)
+    ⨾ named cross-coded _ _ (value num8M (p5 .before .before .cross-at .ensures) (p5 .f5 .given .1)) (c .cross-of .ensures)
     ⨾ end)
 
 pub parse-cross-trade-spec : {M : Type 1} → statement M

@@ -5,7 +5,7 @@ use mathlib.Core.Path.{refl}
 use Rattle.format.specs.Ascii.{'I'}
 use Rattle.format.specs.Meaning.{fault32, fault64, fault8, num32M, num64M, num8M}
 use Rattle.format.proofs.Runs.{value, fault, body-stops, body-reads, end, _⨾_, start, _▹_, Past}
-use Rattle.codes.proofs.Codes.{direction-named, imbalanceCross-named}
+use Rattle.codes.proofs.Codes.{named, direction-coded, imbalanceCross-coded}
 use borrow.Author.Needs.{needs}
 use Rattle.orders.proofs.parse_imbalance_indicator.Statement.{statement}
 use Rattle.orders.proofs.parse_imbalance_indicator.Tie as tie
@@ -198,12 +198,12 @@ returns-10 c =
     body-reads 'I' _ refl
     (value num64M (p1 .before .before .be-u64 .ensures) (p1 .f1 .given .1)
     ⨾ value num64M (p2 .before .before .be-u642 .ensures) (p2 .f2 .given .1)
-    ⨾ direction-named _ _ (value num8M (p3 .before .before .direction-at .ensures) (p3 .f3 .given .1)) (c .before .direction-of .ensures)
+    ⨾ named direction-coded _ _ (value num8M (p3 .before .before .direction-at .ensures) (p3 .f3 .given .1)) (c .before .direction-of .ensures)
     ⨾ value num64M (p4 .before .before .text8 .ensures) (p4 .f4 .given .1)
     ⨾ value num32M (p5 .before .before .be-u32 .ensures) (p5 .f5 .given .1)
     ⨾ value num32M (p6 .before .before .be-u322 .ensures) (p6 .f6 .given .1)
     ⨾ value num32M (p7 .before .before .be-u323 .ensures) (p7 .f7 .given .1)
-    ⨾ imbalanceCross-named _ _ (value num8M (p8 .before .before .imbalance-cross-at .ensures) (p8 .f8 .given .1)) (c .cross-of .ensures)
+    ⨾ named imbalanceCross-coded _ _ (value num8M (p8 .before .before .imbalance-cross-at .ensures) (p8 .f8 .given .1)) (c .cross-of .ensures)
     ⨾ value num8M (p9 .before .before .be-u8 .ensures) (p9 .f9 .given .1)
     ⨾ end)
 

@@ -5,7 +5,7 @@ use mathlib.Core.Path.{refl}
 use Rattle.format.specs.Ascii.{'P'}
 use Rattle.format.specs.Meaning.{fault32, fault64, fault8, num32M, num64M, num8M}
 use Rattle.format.proofs.Runs.{value, fault, body-stops, body-reads, end, _⨾_, start, _▹_, Past}
-use Rattle.codes.proofs.Codes.{side-named}
+use Rattle.codes.proofs.Codes.{named, side-coded}
 use borrow.Author.Needs.{needs}
 use Rattle.orders.proofs.parse_noncross_trade.Statement.{statement}
 use Rattle.orders.proofs.parse_noncross_trade.Tie as tie
@@ -134,7 +134,7 @@ returns-7 c =
     let p1 = p2 .before .before .before .before in
     body-reads 'P' _ refl
     (value num64M (p1 .before .before .be-u64 .ensures) (p1 .f1 .given .1)
-    ⨾ side-named _ _ (value num8M (p2 .before .before .side-at .ensures) (p2 .f2 .given .1)) (c .side-of .ensures)
+    ⨾ named side-coded _ _ (value num8M (p2 .before .before .side-at .ensures) (p2 .f2 .given .1)) (c .side-of .ensures)
     ⨾ value num32M (p3 .before .before .be-u32 .ensures) (p3 .f3 .given .1)
     ⨾ value num64M (p4 .before .before .text8 .ensures) (p4 .f4 .given .1)
     ⨾ value num32M (p5 .before .before .be-u322 .ensures) (p5 .f5 .given .1)

@@ -5,7 +5,7 @@ use mathlib.Core.Path.{refl}
 use Rattle.format.specs.Ascii.{'C'}
 use Rattle.format.specs.Meaning.{fault32, fault64, fault8, num32M, num64M, num8M}
 use Rattle.format.proofs.Runs.{value, fault, body-stops, body-reads, end, _⨾_, start, _▹_, Past}
-use Rattle.codes.proofs.Codes.{yesNo-named}
+use Rattle.codes.proofs.Codes.{named, yesNo-coded}
 use borrow.Author.Needs.{needs}
 use Rattle.orders.proofs.parse_order_executed_with_price.Statement.{statement}
 use Rattle.orders.proofs.parse_order_executed_with_price.Tie as tie
@@ -116,7 +116,7 @@ returns-6 c =
     (value num64M (p1 .before .before .be-u64 .ensures) (p1 .f1 .given .1)
     ⨾ value num32M (p2 .before .before .be-u32 .ensures) (p2 .f2 .given .1)
     ⨾ value num64M (p3 .before .before .be-u642 .ensures) (p3 .f3 .given .1)
-    ⨾ yesNo-named _ _ (value num8M (p4 .before .before .yes-no-at .ensures) (p4 .f4 .given .1)) (c .yes-no-of .ensures)
+    ⨾ named yesNo-coded _ _ (value num8M (p4 .before .before .yes-no-at .ensures) (p4 .f4 .given .1)) (c .yes-no-of .ensures)
     ⨾ value num32M (p5 .before .before .be-u322 .ensures) (p5 .f5 .given .1)
     ⨾ end)
 

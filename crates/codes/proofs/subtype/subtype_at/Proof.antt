@@ -1,9 +1,11 @@
 -- `codes::subtype::subtype_at` meets its contract.
 -- Assumes nothing.
 use mathlib.Core.Path.{refl, sym, _∙_}
+use Rattle.format.specs.Layout.{subtype}
 use Rattle.format.specs.Meaning.{num16M, fault16}
+use Rattle.format.proofs.Fields.{num-short}
 use Rattle.format.proofs.Runs.{value, fault}
-use Rattle.codes.proofs.Codes.{subtype-got, subtype-short}
+use Rattle.codes.proofs.Codes.{subtype-got}
 use borrow.Author.Needs.{needs}
 use Rattle.codes.proofs.subtype.subtype_at.Statement.{statement}
 use Rattle.codes.proofs.subtype.subtype_at.Tie as tie
@@ -22,7 +24,7 @@ no-u16-requires c κs = search needs
 
 returns : tie.Need-returns
 returns c =
-    sym (subtype-short _ _ (c .no-u16 .result) (fault num16M fault16 (c .before .before .before .be-u16 .ensures) (c .before .enum-told .given .1) refl (c .no-u16 .ensures)))
+    sym (num-short subtype 2 _ _ (c .no-u16 .result) refl (fault num16M fault16 (c .before .before .before .be-u16 .ensures) (c .before .enum-told .given .1) refl (c .no-u16 .ensures)))
 
 subtype-of-requires : tie.Need-subtype-of-requires
 subtype-of-requires c κs = search needs
