@@ -1,13 +1,12 @@
 -- The values of a body that was read are those of the message made of them: what each kind of field gives, then row by row.
 -- Assumes nothing.
-use Prim.Native.Nat.{ℕ, _+_}
-use mathlib.Core.Path.{_≡_, refl, sym, subst}
+use Prim.Native.Nat.{ℕ}
+use mathlib.Core.Path.{_≡_, refl, subst}
 use mathlib.Core.Bool.{Bool, true, false, cond}
 use mathlib.Core.List.{List, [], _∷_}
 use native.Mathlib.Omega.{arith}
 use borrow.Author.Tests.{eqb-true}
-use lib.Dec.{eqb, leb}
-use lib.ListN.{length}
+use lib.Dec.{eqb}
 use Rattle.format.specs.Ascii.{'A', 'B', 'C', 'D', 'E', 'F', 'H', 'I', 'J', 'K', 'L', 'N', 'P', 'Q', 'R', 'S', 'U', 'V', 'W', 'X', 'Y'}
 use Rattle.format.specs.Codes.{subtypes}
 use Rattle.format.specs.Layout.{Kind, num, time, text, code, subtype, width, be, part, member, fine, judge, accepted}

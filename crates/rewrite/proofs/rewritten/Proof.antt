@@ -1,7 +1,7 @@
 -- `rewrite::rewritten` meets its contract: a message that was read is written, and what is written of it is what was read exactly where its length is its size.
 -- Assumes nothing.
 use Prim.Native.Nat.{ℕ, _≤_}
-use mathlib.Core.Path.{_≡_, sym, ap, _∙_}
+use mathlib.Core.Path.{_≡_, ap, _∙_}
 use mathlib.Core.List.{List}
 use native.Mathlib.Omega.{arith}
 use lib.ListN.{getD, length, replicate}
