@@ -1,5 +1,5 @@
 -- Lists of single calls. A list is calls, one behind the other. A call is 17 numbers of eight bytes, high byte first, then A's explicit bytes, then B's.
--- The numbers: which call; eight of its own; A's length, fill, place and count of explicit bytes; B's. A fill of 0 is zeros, any other f puts
+-- The numbers: which call, and 100 more where it is made by the later edition; eight of its own; A's length, fill, place and count of explicit bytes; B's. A fill of 0 is zeros, any other f puts
 -- (i mod 251 + f) mod 256 at place i; the explicit bytes stand over the fill. oracle/calls makes such lists.
 -- Assumes nothing.
 use Prim.Native.Nat.{ℕ, zero, suc, _+_, _-_, _*_, _%_, min}
@@ -9,6 +9,8 @@ use lib.Dec.{leb, ltb, eqb}
 use lib.ListN.{length, getD, take, drop}
 use Rattle.format.specs.Layout.{Got, got, short, refused, field, num}
 use Rattle.text.specs.Decimal.{decimalOf}
+use Rattle.format.specs.declared.Edition.the-variants.{Old, Later}
+use Rattle.format.specs.declared.Reading.{Reading}
 use Rattle.call_list.specs.declared.Asked.{Asked}
 
 -- the value of a number that was read; 0 where the list has not all of its bytes
@@ -59,6 +61,10 @@ abbrev pub askedOf : List ℕ → ℕ → ℕ → ℕ → Asked
 askedOf list at roomA roomB =
     let t = drop at list in
     record { v = asksOf t 17; na = min (askOf t 9) roomA; nb = min (askOf t 13) roomB; next = length list - length (fromNext t) }
+
+-- the reading that a call's first number says
+abbrev pub readingFor : ℕ → Reading
+readingFor n = record { edition = cond (ltb n 100) Old Later }
 
 -- the sum of bytes, before it is cut to 32 bits: each counts, one more than it is, as often as there are bytes from it on
 unfoldable pub weightOf : List ℕ → ℕ

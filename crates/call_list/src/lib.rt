@@ -6,8 +6,10 @@ ghost use mathlib.Core.Path.{_≡_};
 ghost use lib.ListN.{length, take, drop};
 ghost use Rattle.format.specs.Layout.{field, num};
 ghost use Rattle.text.specs.Decimal.{decimalOf, Wrote, Puts};
-ghost use Rattle.call_list.specs.Calls.{valueIn, asksOf, fillOf, byteAt, madeOf, bytesA, bytesB, askedOf, weightOf, spacedOf};
+ghost use Rattle.call_list.specs.Calls.{valueIn, asksOf, fillOf, byteAt, madeOf, bytesA, bytesB, askedOf, readingFor, weightOf, spacedOf};
+use format::Edition;
 use format::Num64;
+use format::Reading;
 
 // ---- the list
 
@@ -136,6 +138,27 @@ pub fn call_at(list: &[u8], at: usize, a: &mut [u8], b: &mut [u8]) -> Asked
         na,
         nb,
         next: list.len() - from_next.len(),
+    }
+}
+
+// Which call the first number of a call says: those that are made by the later edition have 100 more.
+pub fn which(n: u64) -> u64
+    ensures { λ r. ⌜ r ≡ n % 100 ⌝ }
+{
+    n % 100
+}
+
+// By which reading it is made.
+pub fn reading(n: u64) -> Reading
+    ensures { λ r. ⌜ r ≡ readingFor n ⌝ }
+{
+    if n < 100 {
+        return Reading {
+            edition: Edition::Old,
+        };
+    }
+    Reading {
+        edition: Edition::Later,
     }
 }
 

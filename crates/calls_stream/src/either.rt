@@ -1,6 +1,7 @@
 // Each call of the stream and the playing slice, by value or over a lent state, its answer as numbers. Who holds a message by value is costly to check, so that
 // is done in functions of one call.
 use flat::Flat;
+use format::Reading;
 use play::Played;
 use stream::Step;
 use stream::Stream;
@@ -12,9 +13,9 @@ const MAKE_ROOM: u64 = 4;
 
 const TOLD: u64 = 5;
 
-fn by_value(which: u64, s: Stream, a: &mut [u8], n: usize) -> Flat {
+fn by_value(which: u64, s: Stream, a: &mut [u8], n: usize, reading: Reading) -> Flat {
     if which == NEXT {
-        return flat::next(s, a);
+        return flat::next(s, a, reading);
     }
     if which == MAKE_ROOM {
         return flat::make_room(s, a);
@@ -25,8 +26,8 @@ fn by_value(which: u64, s: Stream, a: &mut [u8], n: usize) -> Flat {
     flat::told_failed(s)
 }
 
-fn lent_next(s: Stream, a: &[u8]) -> Flat {
-    flat::flatten(lender::next(s, a))
+fn lent_next(s: Stream, a: &[u8], reading: Reading) -> Flat {
+    flat::flatten(lender::next(s, a, reading))
 }
 
 fn lent_make_room(s: Stream, a: &mut [u8]) -> Flat {
@@ -41,9 +42,9 @@ fn lent_told_failed(s: Stream) -> Flat {
     flat::flatten(lender::told_failed(s))
 }
 
-fn over_lent(which: u64, s: Stream, a: &mut [u8], n: usize) -> Flat {
+fn over_lent(which: u64, s: Stream, a: &mut [u8], n: usize, reading: Reading) -> Flat {
     if which == NEXT {
-        return lent_next(s, a);
+        return lent_next(s, a, reading);
     }
     if which == MAKE_ROOM {
         return lent_make_room(s, a);
@@ -55,11 +56,11 @@ fn over_lent(which: u64, s: Stream, a: &mut [u8], n: usize) -> Flat {
 }
 
 // A call of the stream: by its number next, make room, told or, by any other, told of a failed read.
-pub fn step(lent: bool, which: u64, s: Stream, a: &mut [u8], n: usize) -> Flat {
+pub fn step(lent: bool, which: u64, s: Stream, a: &mut [u8], n: usize, reading: Reading) -> Flat {
     if lent {
-        return over_lent(which, s, a, n);
+        return over_lent(which, s, a, n, reading);
     }
-    by_value(which, s, a, n)
+    by_value(which, s, a, n, reading)
 }
 
 // What the playing slice answered, and the position behind it.
@@ -77,18 +78,40 @@ fn flat_of(p: Played) -> FlatPlayed {
     }
 }
 
-fn play_by_value(s: Stream, a: &mut [u8], b: &[u8], at: usize, width: usize) -> FlatPlayed {
-    flat_of(play::play(s, a, b, at, width))
+fn play_by_value(
+    s: Stream,
+    a: &mut [u8],
+    b: &[u8],
+    at: usize,
+    width: usize,
+    reading: Reading,
+) -> FlatPlayed {
+    flat_of(play::play(s, a, b, at, width, reading))
 }
 
-fn play_over_lent(s: Stream, a: &mut [u8], b: &[u8], at: usize, width: usize) -> FlatPlayed {
-    flat_of(lender::play(s, a, b, at, width))
+fn play_over_lent(
+    s: Stream,
+    a: &mut [u8],
+    b: &[u8],
+    at: usize,
+    width: usize,
+    reading: Reading,
+) -> FlatPlayed {
+    flat_of(lender::play(s, a, b, at, width, reading))
 }
 
 // The playing slice.
-pub fn play(lent: bool, s: Stream, a: &mut [u8], b: &[u8], at: usize, width: usize) -> FlatPlayed {
+pub fn play(
+    lent: bool,
+    s: Stream,
+    a: &mut [u8],
+    b: &[u8],
+    at: usize,
+    width: usize,
+    reading: Reading,
+) -> FlatPlayed {
     if lent {
-        return play_over_lent(s, a, b, at, width);
+        return play_over_lent(s, a, b, at, width, reading);
     }
-    play_by_value(s, a, b, at, width)
+    play_by_value(s, a, b, at, width, reading)
 }

@@ -27,7 +27,7 @@ fn state_of(v: [u64; 17]) -> Stream {
 
 // A call and its answer; 0 where no call has this number.
 fn call(lent: bool, v: [u64; 17], a: &mut [u8], b: &[u8], out: &mut [u8]) -> usize {
-    let which = v[0];
+    let which = call_list::which(v[0]);
     if which < FIRST {
         return 0;
     }
@@ -37,10 +37,15 @@ fn call(lent: bool, v: [u64; 17], a: &mut [u8], b: &[u8], out: &mut [u8]) -> usi
     let at = answers::name(lent, which, out);
     let s = state_of(v);
     let n = v[7] as usize;
+    let reading = call_list::reading(v[0]);
     if which == PLAY {
-        return answers::played(either::play(lent, s, a, b, n, v[8] as usize), out, at);
+        return answers::played(
+            either::play(lent, s, a, b, n, v[8] as usize, reading),
+            out,
+            at,
+        );
     }
-    answers::stepped(either::step(lent, which, s, a, n), out, at)
+    answers::stepped(either::step(lent, which, s, a, n, reading), out, at)
 }
 
 // The whole line; whether there was such a call and the line could be written.

@@ -56,9 +56,10 @@ fn read(w: Window, out: &mut [u8], at: usize) -> usize {
 }
 
 // A window is read.
-pub fn window(a: &[u8], out: &mut [u8]) -> usize {
+pub fn window(v: [u64; 17], a: &[u8], out: &mut [u8]) -> usize {
     let at = word(b"window{.", out, 0);
-    read(reader::parse_message(a), out, at)
+    let reading = call_list::reading(v[0]);
+    read(reader::parse_message(a, reading), out, at)
 }
 
 // What a step of the walk answered.
@@ -133,12 +134,14 @@ fn held_of(b: &[u8]) -> [u8; 52] {
 
 fn stepped(v: [u64; 17], a: &[u8], b: &[u8]) -> Stepped {
     let held = held_of(b);
+    let reading = call_list::reading(v[0]);
     let w = Walk {
         offset: v[1],
         seen: v[2] as usize,
         held,
         frames: v[3],
         accepted: v[4],
+        reading,
     };
     walking::step(w, a)
 }

@@ -12,10 +12,11 @@ const STEP: u64 = 2;
 
 // A call and its answer; 0 where no call has this number.
 fn call(v: [u64; 17], a: &[u8], b: &[u8], out: &mut [u8]) -> usize {
-    if v[0] == WINDOW {
-        return answers::window(a, out);
+    let which = call_list::which(v[0]);
+    if which == WINDOW {
+        return answers::window(v, a, out);
     }
-    if v[0] == STEP {
+    if which == STEP {
         return answers::step(v, a, b, out);
     }
     0

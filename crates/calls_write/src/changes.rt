@@ -144,6 +144,20 @@ fn body_of(b: Body, what: u64, to: u64) -> Body {
             reserved,
             reason: text4_of(reason, what, to),
         },
+        Body::OperationalHalt {
+            stock,
+            market_code,
+            action,
+        } => Body::OperationalHalt {
+            stock: text8_of(stock, what, to),
+            market_code,
+            action,
+        },
+        Body::DirectListing(x) => {
+            let mut y = x;
+            y.stock = text8_of(x.stock, what, to);
+            Body::DirectListing(y)
+        }
         _ => b,
     }
 }

@@ -10,6 +10,9 @@ use writer::Written;
 // The call's number.
 const WRITE: u64 = 8;
 
+// The same by the later edition.
+const LATER: u64 = 108;
+
 // What the writer answered.
 fn wrote(w: Written, out: &mut [u8]) -> usize {
     match w {
@@ -24,16 +27,18 @@ fn wrote(w: Written, out: &mut [u8]) -> usize {
     }
 }
 
-// Writes the record of B's bytes, with the changes that a call's numbers say, into A, and puts the answer; 0 where no call has this number, or B is no record.
+// Writes the record of B's bytes, which may be of either edition, with the changes that a call's numbers say, into A, and puts the answer; 0 where no call has this number, or B is no record.
 fn call(v: [u64; 17], a: &mut [u8], b: &[u8], out: &mut [u8]) -> usize {
-    if v[0] != WRITE {
+    if call_list::which(v[0]) != WRITE {
         return 0;
     }
-    let w = reader::parse_message(b);
+    let reading = call_list::reading(v[0]);
+    let later = call_list::reading(LATER);
+    let w = reader::parse_message(b, later);
     let Window::Message(m, _) = w else {
         return 0;
     };
-    wrote(writer::write(changes::changed(m, v), a), out)
+    wrote(writer::write(changes::changed(m, v), a, reading), out)
 }
 
 // The whole line; whether there was such a call and the line could be written.

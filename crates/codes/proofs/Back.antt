@@ -35,6 +35,10 @@ use Rattle.codes.specs.declared.market.IpoReleaseQualifier.{IpoReleaseQu
 use Rattle.codes.specs.declared.market.IpoReleaseQualifier.the-variants as IpoReleaseQualifier·
 use Rattle.codes.specs.declared.market.LevelBreached.{LevelBreached}
 use Rattle.codes.specs.declared.market.LevelBreached.the-variants as LevelBreached·
+use Rattle.codes.specs.declared.market.MarketCode.{MarketCode}
+use Rattle.codes.specs.declared.market.MarketCode.the-variants as MarketCode·
+use Rattle.codes.specs.declared.market.HaltAction.{HaltAction}
+use Rattle.codes.specs.declared.market.HaltAction.the-variants as HaltAction·
 use Rattle.codes.specs.declared.trade.InterestFlag.{InterestFlag}
 use Rattle.codes.specs.declared.trade.InterestFlag.the-variants as InterestFlag·
 use Rattle.codes.specs.declared.stock.Flag.{Flag}
@@ -43,7 +47,7 @@ use Rattle.codes.specs.declared.stock.EtpFlag.{EtpFlag}
 use Rattle.codes.specs.declared.stock.EtpFlag.the-variants as EtpFlag·
 use Rattle.codes.specs.declared.subtype.IssueSubType.{IssueSubType}
 use Rattle.codes.specs.declared.subtype.IssueSubType.the-variants as IssueSubType·
-use Rattle.codes.specs.Names.{nameOf, subtypeByte, subtypeFrom, eventByte, eventFrom, categoryByte, categoryFrom, statusByte, statusFrom, classByte, classFrom, tierByte, tierFrom, makerModeByte, makerModeFrom, participantStateByte, participantStateFrom, actionByte, actionFrom, tradingStateByte, tradingStateFrom, sideByte, sideFrom, directionByte, directionFrom, crossByte, crossFrom, qualifierByte, qualifierFrom, levelByte, levelFrom, interestByte, interestFrom, flagByte, flagFrom, etpFlagByte, etpFlagFrom, yesNoByte, authenticityByte}
+use Rattle.codes.specs.Names.{nameOf, subtypeByte, subtypeFrom, eventByte, eventFrom, categoryByte, categoryFrom, statusByte, statusFrom, classByte, classFrom, tierByte, tierFrom, makerModeByte, makerModeFrom, participantStateByte, participantStateFrom, actionByte, actionFrom, tradingStateByte, tradingStateFrom, sideByte, sideFrom, directionByte, directionFrom, crossByte, crossFrom, qualifierByte, qualifierFrom, levelByte, levelFrom, marketByte, marketFrom, haltByte, haltFrom, interestByte, interestFrom, flagByte, flagFrom, etpFlagByte, etpFlagFrom, yesNoByte, authenticityByte}
 
 -- the bytes of these names pass a test
 abbrev pub pass : {A : Type 0} → (ℕ → Bool) → (A → ℕ) → List A → Bool
@@ -188,6 +192,17 @@ unfolding levelFrom
 level-back LevelBreached·.L1 = refl
 level-back LevelBreached·.L2 = refl
 level-back LevelBreached·.L3 = refl
+
+pub market-back : (x : MarketCode) → marketFrom (marketByte x) ≡ x
+unfolding marketFrom
+market-back MarketCode·.Nasdaq = refl
+market-back MarketCode·.Bx = refl
+market-back MarketCode·.Psx = refl
+
+pub halt-back : (x : HaltAction) → haltFrom (haltByte x) ≡ x
+unfolding haltFrom
+halt-back HaltAction·.Halted = refl
+halt-back HaltAction·.Resumed = refl
 
 pub interest-back : (x : InterestFlag) → interestFrom (interestByte x) ≡ x
 unfolding interestFrom

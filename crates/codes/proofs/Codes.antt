@@ -7,9 +7,9 @@ use Prim.Native.Nat.{ℕ}
 use lib.Dec.{T, eqb, eqb→eq}
 use borrow.Author.Tests.{eqb-true}
 use Rattle.format.specs.Ascii.{'Y', 'P'}
-use Rattle.format.specs.Codes.{side, yesNo, tradingState, direction, imbalanceCross, qualifier, makerMode, participantState, interest, cross, category, status, class, authenticity, flag, tier, etpFlag, event, level, action, subtypes}
+use Rattle.format.specs.Codes.{side, yesNo, tradingState, direction, imbalanceCross, qualifier, makerMode, participantState, interest, cross, category, status, class, authenticity, flag, tier, etpFlag, event, level, action, market, halt, subtypes}
 use Rattle.format.specs.Layout.{num, code, subtype, be, part, member, got, judge, field}
-use Rattle.codes.specs.Names.{eventByte, eventFrom, categoryByte, categoryFrom, statusByte, statusFrom, classByte, classFrom, tierByte, tierFrom, makerModeByte, makerModeFrom, participantStateByte, participantStateFrom, actionByte, actionFrom, tradingStateByte, tradingStateFrom, sideByte, sideFrom, directionByte, directionFrom, crossByte, crossFrom, qualifierByte, qualifierFrom, levelByte, levelFrom, interestByte, interestFrom, flagByte, flagFrom, etpFlagByte, etpFlagFrom, yesNoByte, authenticityByte, subtypeByte, subtypeFrom, subtypeOf}
+use Rattle.codes.specs.Names.{eventByte, eventFrom, categoryByte, categoryFrom, statusByte, statusFrom, classByte, classFrom, tierByte, tierFrom, makerModeByte, makerModeFrom, participantStateByte, participantStateFrom, actionByte, actionFrom, tradingStateByte, tradingStateFrom, sideByte, sideFrom, directionByte, directionFrom, crossByte, crossFrom, qualifierByte, qualifierFrom, levelByte, levelFrom, marketByte, marketFrom, haltByte, haltFrom, interestByte, interestFrom, flagByte, flagFrom, etpFlagByte, etpFlagFrom, yesNoByte, authenticityByte, subtypeByte, subtypeFrom, subtypeOf}
 use Rattle.format.proofs.Fields.{field-judged, field-fine, code-fine}
 use Rattle.format.proofs.Tests.{both}
 
@@ -113,6 +113,14 @@ level-coded = coded levelByte levelFrom level tt
 pub action-coded : Coded actionByte actionFrom action
 unfolding action actionFrom
 action-coded = coded actionByte actionFrom action tt
+
+pub market-coded : Coded marketByte marketFrom market
+unfolding market marketFrom
+market-coded = coded marketByte marketFrom market tt
+
+pub halt-coded : Coded haltByte haltFrom halt
+unfolding halt haltFrom
+halt-coded = coded haltByte haltFrom halt tt
 
 pub yesNo-coded : Coded yesNoByte (λ b. eqb b 'Y') yesNo
 unfolding yesNo

@@ -38,6 +38,10 @@ use Rattle.codes.specs.declared.market.IpoReleaseQualifier.{IpoReleaseQu
 use Rattle.codes.specs.declared.market.IpoReleaseQualifier.the-variants as IpoReleaseQualifier·
 use Rattle.codes.specs.declared.market.LevelBreached.{LevelBreached}
 use Rattle.codes.specs.declared.market.LevelBreached.the-variants as LevelBreached·
+use Rattle.codes.specs.declared.market.MarketCode.{MarketCode}
+use Rattle.codes.specs.declared.market.MarketCode.the-variants as MarketCode·
+use Rattle.codes.specs.declared.market.HaltAction.{HaltAction}
+use Rattle.codes.specs.declared.market.HaltAction.the-variants as HaltAction·
 use Rattle.codes.specs.declared.trade.InterestFlag.{InterestFlag}
 use Rattle.codes.specs.declared.trade.InterestFlag.the-variants as InterestFlag·
 use Rattle.codes.specs.declared.stock.Flag.{Flag}
@@ -256,6 +260,27 @@ levelNames = LevelBreached·.L1 ∷ LevelBreached·.L2 ∷ []
 
 unfoldable pub levelFrom : ℕ → LevelBreached
 levelFrom b = nameOf levelByte levelNames LevelBreached·.L3 b
+
+abbrev pub marketByte : MarketCode → ℕ
+marketByte MarketCode·.Nasdaq = 'Q'
+marketByte MarketCode·.Bx = 'B'
+marketByte MarketCode·.Psx = 'X'
+
+abbrev pub marketNames : List MarketCode
+marketNames = MarketCode·.Nasdaq ∷ MarketCode·.Bx ∷ []
+
+unfoldable pub marketFrom : ℕ → MarketCode
+marketFrom b = nameOf marketByte marketNames MarketCode·.Psx b
+
+abbrev pub haltByte : HaltAction → ℕ
+haltByte HaltAction·.Halted = 'H'
+haltByte HaltAction·.Resumed = 'T'
+
+abbrev pub haltNames : List HaltAction
+haltNames = HaltAction·.Halted ∷ []
+
+unfoldable pub haltFrom : ℕ → HaltAction
+haltFrom b = nameOf haltByte haltNames HaltAction·.Resumed b
 
 abbrev pub interestByte : InterestFlag → ℕ
 interestByte InterestFlag·.RPIAvailableBuySide = 'B'

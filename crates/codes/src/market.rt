@@ -1,6 +1,6 @@
-// The names of what happens to the market, to a stock and to a participant: S, H, Y, L, W and K.
+// The names of what happens to the market, to a stock and to a participant: S, H, Y, L, W, K and h.
 ghost use mathlib.Core.Path.{_≡_};
-ghost use Rattle.codes.specs.Names.{actionByte, actionFrom, eventByte, eventFrom, levelByte, levelFrom, makerModeByte, makerModeFrom, participantStateByte, participantStateFrom, qualifierByte, qualifierFrom, tradingStateByte, tradingStateFrom};
+ghost use Rattle.codes.specs.Names.{actionByte, actionFrom, eventByte, eventFrom, haltByte, haltFrom, levelByte, levelFrom, makerModeByte, makerModeFrom, marketByte, marketFrom, participantStateByte, participantStateFrom, qualifierByte, qualifierFrom, tradingStateByte, tradingStateFrom};
 
 // The hour of the day that the whole market has come to: S.
 pub enum EventCode {
@@ -223,5 +223,60 @@ pub fn qualifier_code(x: IpoReleaseQualifier) -> u8
     match x {
         IpoReleaseQualifier::Anticipated => b'A',
         IpoReleaseQualifier::Cancelled => b'C',
+    }
+}
+
+// Which market halts a stock by itself: h.
+pub enum MarketCode {
+    Nasdaq,
+    Bx,
+    Psx,
+}
+
+// The name of a byte; Psx for any that is no code.
+pub fn market_of(b: u8) -> MarketCode
+    ensures { λ r. ⌜ r ≡ marketFrom b ⌝ }
+{
+    match b {
+        b'Q' => MarketCode::Nasdaq,
+        b'B' => MarketCode::Bx,
+        _ => MarketCode::Psx,
+    }
+}
+
+// The byte of a name.
+pub fn market_code(x: MarketCode) -> u8
+    ensures { λ r. ⌜ r ≡ marketByte x ⌝ }
+{
+    match x {
+        MarketCode::Nasdaq => b'Q',
+        MarketCode::Bx => b'B',
+        MarketCode::Psx => b'X',
+    }
+}
+
+// Whether it halts the stock or lets it trade again: h.
+pub enum HaltAction {
+    Halted,
+    Resumed,
+}
+
+// The name of a byte; Resumed for any that is no code.
+pub fn halt_of(b: u8) -> HaltAction
+    ensures { λ r. ⌜ r ≡ haltFrom b ⌝ }
+{
+    match b {
+        b'H' => HaltAction::Halted,
+        _ => HaltAction::Resumed,
+    }
+}
+
+// The byte of a name.
+pub fn halt_code(x: HaltAction) -> u8
+    ensures { λ r. ⌜ r ≡ haltByte x ⌝ }
+{
+    match x {
+        HaltAction::Halted => b'H',
+        HaltAction::Resumed => b'T',
     }
 }

@@ -1,20 +1,24 @@
--- Demand 3 of the reader's own answer, over runs of steps from the fresh state, cut anywhere; and a state that steps reach is never refused with 30.
+-- Demand 3 of the reader's own answer, over runs of steps from the fresh state, cut anywhere; a state that steps reach is never refused with 30; and one walk
+-- keeps one reading.
 -- Assumes nothing.
-use Prim.Native.Nat.{ℕ, suc, _<_, _+_, _^_}
-use mathlib.Core.Path.{_≡_, refl, ap}
-use mathlib.Core.Bool.{Bool, true, false}
-use mathlib.Core.List.{List, [], _++_}
+use Prim.Native.Nat.{ℕ, zero, suc, _<_, _+_, _-_, _^_}
+use mathlib.Core.Path.{_≡_, refl, ap, _∙_}
+use mathlib.Core.Bool.{Bool, true, false, cond}
+use mathlib.Core.List.{List, [], _∷_, _++_}
 use mathlib.Core.Logic.{⊎-elim}
 use native.Mathlib.Omega.{arith}
 use borrow.Author.Tests.{ltb-true}
-use lib.ListN.{length, take, length-append, length-map}
+use lib.Dec.{ltb}
+use lib.ListN.{length, take, drop, length-append, length-map}
+use Rattle.format.specs.declared.Reading.{Reading}
 use Rattle.reader.specs.declared.Window.{Window}
 use Rattle.reader.specs.Window.{windowOf}
 use Rattle.laws.proofs.Answers.{keeps, enough}
 use Rattle.walk.specs.declared.Walk.{Walk}
+use Rattle.walk.specs.declared.Stepped.{Stepped}
 use Rattle.walk.specs.declared.Answer.the-variants.{Refused}
-use Rattle.walk.specs.Walk.{frameSize, frameOf, freshOf, countable, stepOf, doneOf, Lawful}
-use Rattle.walk.specs.Frames.{Entry, Walked, walkOf, joined, pad, runOf, ranOf}
+use Rattle.walk.specs.Walk.{frameSize, frameOf, freshOf, soundOf, countable, put, judgeOf, moreOf, refusedOf, movedBy, movedOf, stepOf, doneOf, ownStep, Lawful}
+use Rattle.walk.specs.Frames.{Entry, Walked, walkOf, joined, pad, runBy, run, runOf, ranOf}
 use Rattle.walk.proofs.Cases.{step-33}
 use Rattle.demand.specs.Promises.{Overwritten, Demand3, Reached, start, next}
 use Rattle.demand.proofs.Steps.{Holds, holds-sound, step-more, step-done, holds-more, holds-past}
@@ -23,22 +27,22 @@ use Rattle.demand.proofs.Cut.{cut}
 use Rattle.demand.proofs.Overwriting.{again, overwriting, each-frame, other-frames, untouched}
 
 module _ (win : List ℕ → Window) (laws : Lawful win) where
-  fresh-holds : Holds freshOf []
+  pub fresh-holds : (rd : Reading) → Holds (freshOf rd) []
   unfolding pad
-  fresh-holds = record { seen = refl; held = refl; short = omega arith; two = omega arith; counted = omega arith }
+  fresh-holds rd = record { seen = refl; held = refl; short = omega arith; two = omega arith; counted = omega arith }
 
   -- wherever a recording is cut, the steps over its pieces give its walk
-  pub cutting : (ps : List (List ℕ)) → length (joined ps) < 2 ^ 64 → runOf win ps ≡ ranOf freshOf (joined ps) (walkOf win (joined ps))
-  cutting ps h =
-      cut win laws (joined ps) h (suc (length ps + length (joined ps))) (length (joined ps)) freshOf [] ps fresh-holds refl
+  pub cutting : (rd : Reading) (ps : List (List ℕ)) → length (joined ps) < 2 ^ 64 → runOf win rd ps ≡ ranOf (freshOf rd) (joined ps) (walkOf win (joined ps))
+  cutting rd ps h =
+      cut win laws (joined ps) h (suc (length ps + length (joined ps))) (length (joined ps)) (freshOf rd) [] ps (fresh-holds rd) refl
       (omega arith) (omega arith) (omega arith)
 
   -- ---- demand 3
 
-  pub demand-3 : (ps qs : List (List ℕ)) → length (joined ps) < 2 ^ 64 → Overwritten win (joined ps) (joined qs) → Demand3 win ps qs
-  demand-3 ps qs h O =
-      let a : runOf win ps ≡ ranOf freshOf (joined ps) (walkOf win (joined ps)) = cutting ps h in
-      let b : runOf win qs ≡ ranOf freshOf (joined qs) (walkOf win (joined qs)) = cutting qs (omega (arith, O .long)) in
+  pub demand-3 : (rd : Reading) (ps qs : List (List ℕ)) → length (joined ps) < 2 ^ 64 → Overwritten win (joined ps) (joined qs) → Demand3 win rd ps qs
+  demand-3 rd ps qs h O =
+      let a : runOf win rd ps ≡ ranOf (freshOf rd) (joined ps) (walkOf win (joined ps)) = cutting rd ps h in
+      let b : runOf win rd qs ≡ ranOf (freshOf rd) (joined qs) (walkOf win (joined qs)) = cutting rd qs (omega (arith, O .long)) in
       let c = overwriting win (joined ps) (joined qs) O in
       let f = each-frame win (joined ps) (joined qs) O in
       record {
@@ -80,20 +84,55 @@ module _ (win : List ℕ → Window) (laws : Lawful win) where
           (q ++ p, rw s (holds-more win laws w q H p h), rw s (λ a. let z : _≡_ {A = ℕ} 0 1 = cc in omega arith)))
           (whole? (q ++ p))
 
-  reached-holds : {w : Walk} → Reached win w → (q : List ℕ) × Holds w q
-  reached-holds start = ([], fresh-holds)
+  reached-holds : {rd : Reading} {w : Walk} → Reached win rd w → (q : List ℕ) × Holds w q
+  reached-holds {rd} start = ([], fresh-holds rd)
   reached-holds (next {w = w} p r) = let h = reached-holds r in let n = holds-next w (h .0) p (h .1) in (n .0, n .1)
 
-  never-30 : (w : Walk) (p : List ℕ) → Reached win w → stepOf win w p .answer ≡ Refused 30 → ⊥
-  never-30 w p r = let h = reached-holds r in holds-next w (h .0) p (h .1) .2
+  never-30 : (rd : Reading) (w : Walk) (p : List ℕ) → Reached win rd w → stepOf win w p .answer ≡ Refused 30 → ⊥
+  never-30 rd w p r = let h = reached-holds r in holds-next w (h .0) p (h .1) .2
 
--- ---- at the reader's own answer
+-- ---- one walk keeps one reading: no step changes it
 
-pub lawful : Lawful windowOf
-lawful = record { appended = keeps; full = enough }
+step-keeps : (win : List ℕ → Window) (w : Walk) (p : List ℕ) → stepOf win w p .state .reading ≡ w .reading
+unfolding stepOf movedOf movedBy doneOf
+step-keeps win w p =
+    let h = put (w .held) (w .seen) p in
+    let m = moreOf w h (length p) in
+    let f = doneOf w (frameSize h - w .seen) (frameSize h) (judgeOf win h (frameSize h)) in
+    go (soundOf w) (countable (w .offset) (w .seen) (length p)) (ltb (w .seen + length p) (frameSize h)) m f refl refl
+  where
+    go : (a b c : Bool) (m f : Stepped) → m .state .reading ≡ w .reading → f .state .reading ≡ w .reading
+        → cond a (cond b (cond c m f) (refusedOf w 33)) (refusedOf w 30) .state .reading ≡ w .reading
+    go true true true m f x y = x
+    go true true false m f x y = y
+    go true false c m f x y = refl
+    go false b c m f x y = refl
 
-pub walk-demand-3 : (ps qs : List (List ℕ)) → length (joined ps) < 2 ^ 64 → Overwritten windowOf (joined ps) (joined qs) → Demand3 windowOf ps qs
-walk-demand-3 = demand-3 windowOf lawful
+pub reached-reading : {win : List ℕ → Window} {rd : Reading} {w : Walk} → Reached win rd w → w .reading ≡ rd
+reached-reading start = refl
+reached-reading {win} (next {w = w} p r) = step-keeps win w p ∙ reached-reading r
 
-pub walk-never-30 : (w : Walk) (p : List ℕ) → Reached windowOf w → stepOf windowOf w p .answer ≡ Refused 30 → ⊥
-walk-never-30 = never-30 windowOf lawful
+-- ---- at the reader's own answer, by any reading
+
+pub lawful : (rd : Reading) → Lawful (windowOf rd)
+lawful rd = record { appended = keeps rd; full = enough rd }
+
+pub walk-demand-3 : (rd : Reading) (ps qs : List (List ℕ)) → length (joined ps) < 2 ^ 64 → Overwritten (windowOf rd) (joined ps) (joined qs)
+    → Demand3 (windowOf rd) rd ps qs
+walk-demand-3 rd = demand-3 (windowOf rd) (lawful rd) rd
+
+pub walk-never-30 : (rd : Reading) (w : Walk) (p : List ℕ) → Reached (windowOf rd) rd w → stepOf (windowOf rd) w p .answer ≡ Refused 30 → ⊥
+walk-never-30 rd = never-30 (windowOf rd) (lawful rd) rd
+
+own-run : (rd : Reading) (k : ℕ) (w : Walk) (ps : List (List ℕ)) → w .reading ≡ rd → runBy ownStep k w ps ≡ run (windowOf rd) k w ps
+unfolding runBy
+own-run rd zero w ps e = refl
+own-run rd (suc k) w [] e = refl
+own-run rd (suc k) w (p ∷ ps) e =
+    let s : ownStep w p ≡ stepOf (windowOf rd) w p = ap (λ r. stepOf (windowOf r) w p) e in
+    let q = step-keeps (windowOf rd) w p ∙ e in
+    rw (s, own-run rd k (stepOf (windowOf rd) w p .state) (drop (stepOf (windowOf rd) w p .used) p ∷ ps) q, own-run rd k (stepOf (windowOf rd) w p .state) ps q)
+
+-- the steps that the code takes, each by the reading in its state, run as steps by the one reading that the walk began with
+pub walk-one-reading : (rd : Reading) (k : ℕ) (ps : List (List ℕ)) → runBy ownStep k (freshOf rd) ps ≡ run (windowOf rd) k (freshOf rd) ps
+walk-one-reading rd k ps = own-run rd k (freshOf rd) ps refl

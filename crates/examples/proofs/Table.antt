@@ -1,36 +1,44 @@
--- Every row of the table of examples holds: the table with all answers computed anew is the table itself.
+-- Every row of the tables of examples holds: a table with all answers computed anew is the table itself.
 -- Assumes nothing.
 use mathlib.Core.Path.{_≡_, refl}
 use mathlib.Core.List.{List, [], _∷_, map}
 use mathlib.Core.Logic.{inl, inr}
-use Rattle.format.specs.Codes.{side, yesNo, tradingState, direction, imbalanceCross, cross, category, status, class, authenticity, flag, tier, etpFlag, event, subtypes}
+use Rattle.format.specs.Codes.{side, yesNo, tradingState, direction, imbalanceCross, cross, category, status, class, authenticity, flag, tier, etpFlag, event, market, halt, subtypes}
 use Rattle.format.specs.Utf8.{utfStep, utfRun, wellFormed, badFrom, firstBad}
 use Rattle.format.specs.Layout.{judge, field}
 use Rattle.format.specs.Rows.{window}
-use Rattle.codes.specs.Names.{eventFrom, categoryFrom, statusFrom, classFrom, subtypeByte, subtypeFrom, crossFrom, sideFrom, flagFrom, tierFrom, etpFlagFrom, tradingStateFrom}
+use Rattle.codes.specs.Names.{eventFrom, categoryFrom, statusFrom, classFrom, subtypeByte, subtypeFrom, crossFrom, sideFrom, flagFrom, tierFrom, etpFlagFrom, tradingStateFrom, marketFrom, haltFrom}
+use Rattle.format.specs.declared.Reading.{Reading}
 use Rattle.records.specs.Values.{bodyFrom}
 use Rattle.reader.specs.Window.{windowOf}
 use Rattle.walk.specs.Walk.{frameOf}
 use Rattle.walk.specs.Frames.{walkAt}
-use Rattle.examples.specs.Examples.{Row, Holds, anew, In, rows}
+use Rattle.examples.specs.Examples.{Row, Holds, anew, old, later, In, rows, later-rows}
 use Rattle.examples.specs.Examples as Examples
 
-table : map anew rows ≡ rows
+table : map (anew old) rows ≡ rows
 unfolding windowOf window field judge utfStep utfRun wellFormed badFrom firstBad bodyFrom frameOf walkAt
     side yesNo tradingState direction imbalanceCross cross category status class authenticity flag tier etpFlag event subtypes
     eventFrom categoryFrom statusFrom classFrom subtypeByte subtypeFrom
     crossFrom sideFrom flagFrom tierFrom etpFlagFrom tradingStateFrom
 table = refl
 
-holds : (r : Row) → anew r ≡ r → Holds r
-holds (Examples.window e s a) q = cc
-holds (Examples.frame e s v) q = cc
-holds (Examples.walk e s w) q = cc
+later-table : map (anew later) later-rows ≡ later-rows
+unfolding windowOf window field judge utfStep utfRun wellFormed bodyFrom frameOf walkAt yesNo event market halt eventFrom marketFrom haltFrom
+later-table = refl
 
-each : (rs : List Row) → map anew rs ≡ rs → (r : Row) → In r rs → Holds r
-each [] q r h = absurd h
-each (x ∷ xs) q r (inl e) = rw e (holds x cc)
-each (x ∷ xs) q r (inr h) = let t : map anew xs ≡ xs = cc in each xs t r h
+holds : (rd : Reading) (r : Row) → anew rd r ≡ r → Holds rd r
+holds rd (Examples.window e s a) q = cc
+holds rd (Examples.frame e s v) q = cc
+holds rd (Examples.walk e s w) q = cc
 
-pub examples : (r : Row) → In r rows → Holds r
-examples = each rows table
+each : (rd : Reading) (rs : List Row) → map (anew rd) rs ≡ rs → (r : Row) → In r rs → Holds rd r
+each rd [] q r h = absurd h
+each rd (x ∷ xs) q r (inl e) = rw e (holds rd x cc)
+each rd (x ∷ xs) q r (inr h) = let t : map (anew rd) xs ≡ xs = cc in each rd xs t r h
+
+pub examples : (r : Row) → In r rows → Holds old r
+examples = each old rows table
+
+pub later-examples : (r : Row) → In r later-rows → Holds later r
+later-examples = each later later-rows later-table

@@ -1,14 +1,18 @@
--- The scope's examples 1 to 11, its further runs and its page of five lines, one table: which bytes, which answer is asked of them, and what it is. An accepted
--- message stands whole.
+-- The scope's examples 1 to 11, its further runs and its page of five lines, and the two messages of the later edition by both: a table for each edition, of which
+-- bytes, which answer is asked of them, and what it is. An accepted message stands whole.
 -- Assumes nothing.
 use Prim.Native.Nat.{ℕ}
 use mathlib.Core.Path.{_≡_}
 use mathlib.Core.Bool.{true, false}
 use mathlib.Core.List.{List, [], _∷_, _++_}
 use mathlib.Core.Logic.{_⊎_}
+use Rattle.format.specs.declared.Edition.the-variants.{Old, Later}
+use Rattle.format.specs.declared.Reading.{Reading}
 use Rattle.codes.specs.declared.trade.CrossType.the-variants.{Intraday}
 use Rattle.codes.specs.declared.market.EventCode.the-variants.{StartOfMessages}
 use Rattle.codes.specs.declared.market.TradingState.the-variants.{Halted}
+use Rattle.codes.specs.declared.market.MarketCode.the-variants.{Bx}
+use Rattle.codes.specs.declared.market.HaltAction.the-variants.{Resumed}
 use Rattle.codes.specs.declared.stock.EtpFlag.the-variants.{M}
 use Rattle.codes.specs.declared.stock.FinancialStatus.the-variants.{Normal}
 use Rattle.codes.specs.declared.stock.Flag.the-variants.{No, Absent}
@@ -21,6 +25,7 @@ use Rattle.records.specs.declared.Mpid.the-variants as Mpid·
 use Rattle.records.specs.declared.AddOrder.{AddOrder}
 use Rattle.records.specs.declared.CrossTrade.{CrossTrade}
 use Rattle.records.specs.declared.StockDirectory.{StockDirectory}
+use Rattle.records.specs.declared.DirectListing.{DirectListing}
 use Rattle.records.specs.declared.Body.{Body}
 use Rattle.records.specs.declared.Body.the-variants as Body·
 use Rattle.records.specs.declared.Message.{Message}
@@ -40,17 +45,24 @@ pub data Row : Type 0 where
   frame : ℕ → List ℕ → Verdict → Row
   walk : ℕ → List ℕ → Walked → Row
 
--- by the definitions that the contracts cite
-abbrev pub Holds : Row → Type 0
-Holds (window e s a) = windowOf s ≡ a
-Holds (frame e s v) = frameOf windowOf s ≡ v
-Holds (walk e s w) = walkOf windowOf s ≡ w
+-- by the definitions that the contracts cite, and a reading
+abbrev pub Holds : Reading → Row → Type 0
+Holds rd (window e s a) = windowOf rd s ≡ a
+Holds rd (frame e s v) = frameOf (windowOf rd) s ≡ v
+Holds rd (walk e s w) = walkOf (windowOf rd) s ≡ w
 
 -- a row with its answer computed anew
-abbrev pub anew : Row → Row
-anew (window e s a) = window e s (windowOf s)
-anew (frame e s v) = frame e s (frameOf windowOf s)
-anew (walk e s w) = walk e s (walkOf windowOf s)
+abbrev pub anew : Reading → Row → Row
+anew rd (window e s a) = window e s (windowOf rd s)
+anew rd (frame e s v) = frame e s (frameOf (windowOf rd) s)
+anew rd (walk e s w) = walk e s (walkOf (windowOf rd) s)
+
+-- the readings of the two tables
+abbrev pub old : Reading
+old = record { edition = Old }
+
+abbrev pub later : Reading
+later = record { edition = Later }
 
 -- r is one of the rows
 abbrev pub In : Row → List Row → Type 0
@@ -148,6 +160,36 @@ deletes = with-head 0x44 (Body·.DeleteOrder 42)
 abbrev line-three : List ℕ
 line-three = 0x53 ∷ 0x00 ∷ 0x00 ∷ 0x00 ∷ 0x00 ∷ 0x00 ∷ 0x00 ∷ 0x00 ∷ 0x00 ∷ 0x00 ∷ 0x03 ∷ 0x58 ∷ []
 
+-- an h, with the code B at place 21 and this one at 22
+abbrev h-with-action : ℕ → List ℕ
+h-with-action action = 0x00 ∷ 0x15 ∷ 0x68 ∷ head ++ stock ++ (0x42 ∷ action ∷ [])
+
+abbrev resumes : Message
+resumes = with-head 0x68 (Body·.OperationalHalt 0x4141504c20202020 Bx Resumed)
+
+-- an O: six numbers behind the code Y at place 21
+abbrev o-whole : List ℕ
+o-whole = 0x00 ∷ 0x30 ∷ 0x4f ∷ head ++ stock ++ (0x59 ∷ []) ++ n4 ++ n4 ++ n4 ++ n8 ++ n4 ++ n4
+
+abbrev listed : DirectListing
+listed = record {
+  stock = 0x4141504c20202020;
+  «open_eligibility» = true;
+  «minimum_price» = 100;
+  «maximum_price» = 100;
+  «near_execution_price» = 100;
+  «near_execution_time» = 42;
+  «lower_collar» = 100;
+  «upper_collar» = 100;
+}
+
+-- the first 13 bytes of an h, and a frame that is shorter
+abbrev h-thirteen : List ℕ
+h-thirteen = 0x00 ∷ 0x15 ∷ 0x68 ∷ head
+
+abbrev h-short : List ℕ
+h-short = 0x00 ∷ 0x02 ∷ 0x68 ∷ 0x00 ∷ []
+
 -- a frame of this size at this offset, accepted; refused
 abbrev accepted : ℕ → ℕ → Message → Entry
 accepted at size m = record { at = at; size = size; what = Good m }
@@ -158,7 +200,7 @@ refused at size number place = record { at = at; size = size; what = Bad number 
 abbrev walked : List Entry → ℕ → ℕ → Walked
 walked es tail left = record { entries = es; tail = tail; left = left }
 
--- ---- the table
+-- ---- the tables: the old edition's
 
 abbrev pub rows : List Row
 rows =
@@ -203,4 +245,25 @@ rows =
     -- The page's five lines, as `frames` prints them.
     ∷ walk 0 ((0x00 ∷ 0x0c ∷ line-one) ++ (0x00 ∷ 0x13 ∷ line-two) ++ (0x00 ∷ 0x0c ∷ line-three) ++ (0x00 ∷ 0x01 ∷ 0x5a ∷ 0x00 ∷ []))
     (walked (accepted 0 14 opens ∷ accepted 14 21 deletes ∷ refused 35 14 2 13 ∷ refused 49 3 20 0 ∷ []) 52 1)
+    -- Both tags of the later edition: 1 at 2 where 13 bytes are there, however the body goes on; 20 where the frame is shorter.
+    ∷ window 0 h-thirteen (Refused 1 2)
+    ∷ window 0 (h-with-action 0x54) (Refused 1 2)
+    ∷ window 0 o-whole (Refused 1 2)
+    ∷ walk 0 (h-with-action 0x54 ++ o-whole ++ h-short) (walked (refused 0 23 1 2 ∷ refused 23 50 1 2 ∷ refused 73 4 20 0 ∷ []) 77 0)
+    ∷ []
+
+-- ---- the later edition's
+
+abbrev pub later-rows : List Row
+later-rows =
+    -- Both messages; one byte less: incomplete; an action that is no code: 2 at 22; 20 where the frame is shorter than a header.
+    window 0 (h-with-action 0x54) (Accepted resumes 23)
+    ∷ window 0 o-whole (Accepted (with-head 0x4f (Body·.DirectListing listed)) 50)
+    ∷ window 0 h-thirteen Incomplete
+    ∷ window 0 (h-with-action 0x51) (Refused 2 22)
+    ∷ walk 0 (h-with-action 0x54 ++ o-whole ++ h-short)
+    (walked (accepted 0 23 resumes ∷ accepted 23 50 (with-head 0x4f (Body·.DirectListing listed)) ∷ refused 73 4 20 0 ∷ []) 77 0)
+    -- As by the old edition: 5a is no tag, line one is accepted.
+    ∷ window 5 (0x00 ∷ 0x0c ∷ 0x5a ∷ 0x00 ∷ 0x00 ∷ 0x00 ∷ 0x00 ∷ 0x00 ∷ 0x00 ∷ 0x00 ∷ 0x00 ∷ 0x00 ∷ 0x01 ∷ []) (Refused 1 2)
+    ∷ window 2 (0x00 ∷ 0x0c ∷ line-one) (Accepted opens 14)
     ∷ []

@@ -48,6 +48,8 @@ body-high (Body·.RetailPriceImprovementIndicator a) = omega arith
 body-high (Body·.StockDirectory a) = omega arith
 body-high (Body·.SystemEvent a) = omega arith
 body-high (Body·.TradingAction a b c d) = omega arith
+body-high (Body·.OperationalHalt a b c) = omega arith
+body-high (Body·.DirectListing a) = omega arith
 
 -- and no other's is
 pub is-message : (s : Stream) (a : Answer) → 65 ≤ flatOf s a .kind → (m : Record) × (a ≡ Message m)

@@ -9,9 +9,11 @@ ghost use Rattle.stream.specs.Told.{toldOf, failedOf};
 ghost use Rattle.records.specs.declared.Body.the-variants as Body·;
 ghost use Rattle.records.specs.Values.{orderValues, values};
 ghost use Rattle.flat.specs.Flatten.{bodyNumbers, saidOf, messageOf, flatOf, stepFlat};
+use format::Reading;
 use records::AddOrder;
 use records::Body;
 use records::CrossTrade;
+use records::DirectListing;
 use records::ImbalanceIndicator;
 use records::IpoQuotingPeriod;
 use records::MarketParticipantPosition;
@@ -279,6 +281,24 @@ fn directory(x: StockDirectory) -> [u64; 19]
     ]
 }
 
+fn direct_listing(x: DirectListing) -> [u64; 19]
+    ensures { λ r. ⌜ r ≡ bodyNumbers (values (Body·.DirectListing x)) ⌝ }
+{
+    let open = codes::yes_no_code(x.open_eligibility) as u64;
+    numbers(
+        b'O',
+        x.stock,
+        open,
+        x.minimum_price as u64,
+        x.maximum_price as u64,
+        x.near_execution_price as u64,
+        x.near_execution_time,
+        x.lower_collar as u64,
+        x.upper_collar as u64,
+        0,
+    )
+}
+
 fn body_numbers(body: Body) -> [u64; 19]
     ensures { λ r. ⌜ r ≡ bodyNumbers (values body) ⌝ }
 {
@@ -400,6 +420,23 @@ fn body_numbers(body: Body) -> [u64; 19]
             0,
             0,
         ),
+        Body::OperationalHalt {
+            stock,
+            market_code: which,
+            action: what,
+        } => numbers(
+            b'h',
+            stock,
+            codes::market_code(which) as u64,
+            codes::halt_code(what) as u64,
+            0,
+            0,
+            0,
+            0,
+            0,
+            0,
+        ),
+        Body::DirectListing(x) => direct_listing(x),
     }
 }
 
@@ -446,11 +483,11 @@ pub fn flatten(step: Step) -> Flat
     }
 }
 
-// What the stream answers to next, as numbers.
-pub fn next(s: Stream, b: &[u8]) -> Flat
-    ensures { λ r. ⌜ r ≡ stepFlat (nextOf s (now (b .entry))) ⌝ }
+// What the stream answers to next, by a reading, as numbers.
+pub fn next(s: Stream, b: &[u8], reading: Reading) -> Flat
+    ensures { λ r. ⌜ r ≡ stepFlat (nextOf reading s (now (b .entry))) ⌝ }
 {
-    flatten(stream::next_of(s, b))
+    flatten(stream::next_of(s, b, reading))
 }
 
 // The same of make room. The buffer is as the stream leaves it.

@@ -5,3 +5,4 @@ pub mod Fields
 pub mod Runs
 pub mod Heads
 pub mod Windows
+pub mod Editions

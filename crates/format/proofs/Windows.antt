@@ -7,7 +7,8 @@ use Prim.Native.Nat.{ℕ, _+_, _<_, _≤_}
 use native.Mathlib.Omega.{arith}
 use lib.ListN.{length, getD, drop}
 use Rattle.format.specs.Layout.{Kind, width, be, part, Got, got, short, refused, field, Answer, accepted, incomplete, refuses, step, read}
-use Rattle.format.specs.Rows.{rows, Found, found, none, find, under, message, headerOf, bodyOf, window}
+use Rattle.format.specs.Rows.{rowsIn, Found, found, none, find, under, message, headerOf, bodyIn, window}
+use Rattle.format.specs.declared.Reading.{Reading}
 use Rattle.format.specs.Meaning.{stopM}
 use Rattle.format.specs.declared.Fault.{Fault}
 use Rattle.format.specs.declared.Fault.the-variants.{Short, Refused}
@@ -40,33 +41,34 @@ header-there : (s : List ℕ) → 13 ≤ length s → headerOf s ≡ accepted (g
 unfolding headerOf
 header-there s h = reads (header-reads s h) [] (λ h. accepted (drop 1 h))
 
-pub window-there : (s : List ℕ) → 13 ≤ length s
-    → window s ≡ pre (getD s 2 0 ∷ be (part s 3 2) ∷ be (part s 5 2) ∷ be (part s 7 6) ∷ []) (bodyOf (getD s 2 0) s)
-unfolding window bodyOf
-window-there s h =
-    reads (header-reads s h) [] (message s)
-    ∙ under-pre (find rows (getD s 2 0)) s 13 (getD s 2 0 ∷ be (part s 3 2) ∷ be (part s 5 2) ∷ be (part s 7 6) ∷ []) (getD s 2 0 ∷ [])
+pub window-there : (rd : Reading) (s : List ℕ) → 13 ≤ length s
+    → window rd s ≡ pre (getD s 2 0 ∷ be (part s 3 2) ∷ be (part s 5 2) ∷ be (part s 7 6) ∷ []) (bodyIn rd (getD s 2 0) s)
+unfolding window bodyIn
+window-there rd s h =
+    reads (header-reads s h) [] (message rd s)
+    ∙ under-pre (find (rowsIn rd) (getD s 2 0)) s 13 (getD s 2 0 ∷ be (part s 3 2) ∷ be (part s 5 2) ∷ be (part s 7 6) ∷ []) (getD s 2 0 ∷ [])
 
-pub window-cut : (s : List ℕ) → length s < 13 → window s ≡ incomplete
+pub window-cut : (rd : Reading) (s : List ℕ) → length s < 13 → window rd s ≡ incomplete
 unfolding window
-window-cut s h = header-cut s (message s) h
+window-cut rd s h = header-cut s (message rd s) h
 
-pub window-short : (s : List ℕ) → incomplete ≡ headerOf s → incomplete ≡ window s
-window-short s e =
+pub window-short : (rd : Reading) (s : List ℕ) → incomplete ≡ headerOf s → incomplete ≡ window rd s
+window-short rd s e =
     ⊎-elim
     (λ h. let z : _≡_ {A = ℕ} 0 1 = cc (header-there s h) in absurd (omega arith))
-    (λ h. sym (window-cut s h))
+    (λ h. sym (window-cut rd s h))
     (le-or-lt 13 (length s))
 
-pub window-body : (s : List ℕ) {t l n ts : ℕ} → accepted (t ∷ l ∷ n ∷ ts ∷ []) 13 ≡ headerOf s → window s ≡ pre (t ∷ l ∷ n ∷ ts ∷ []) (bodyOf t s)
-window-body s {t} {l} {n} {ts} e =
+pub window-body : (rd : Reading) (s : List ℕ) {t l n ts : ℕ} → accepted (t ∷ l ∷ n ∷ ts ∷ []) 13 ≡ headerOf s
+    → window rd s ≡ pre (t ∷ l ∷ n ∷ ts ∷ []) (bodyIn rd t s)
+window-body rd s {t} {l} {n} {ts} e =
     ⊎-elim
     (λ h.
     let a : t ≡ getD s 2 0 = cc (header-there s h) in
     let b : l ≡ be (part s 3 2) = cc (header-there s h) in
     let c : n ≡ be (part s 5 2) = cc (header-there s h) in
-    let d : ts ≡ be (part s 7 6) = cc (header-there s h) in
-    rw (a, b, c, d) (window-there s h))
+    let v : ts ≡ be (part s 7 6) = cc (header-there s h) in
+    rw (a, b, c, v) (window-there rd s h))
     (λ h. let z : _≡_ {A = ℕ} 0 1 = cc (header-short s h) in absurd (omega arith))
     (le-or-lt 13 (length s))
 

@@ -94,3 +94,6 @@ abbrev pub 'Y' : ℕ
 
 abbrev pub 'Z' : ℕ
 'Z' = 0x5a
+
+abbrev pub 'h' : ℕ
+'h' = 0x68

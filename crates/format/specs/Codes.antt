@@ -8,7 +8,7 @@ use Rattle.format.specs.Ascii.{'␣', '0', '1', '2', '3', 'A', 'B', 'C',
 unfoldable pub side : List ℕ
 side = 'B' ∷ 'S' ∷ []
 
--- C: printable; L: primary; R: lots only, inverse
+-- C: printable; L: primary; O: open eligibility; R: lots only, inverse
 unfoldable pub yesNo : List ℕ
 yesNo = 'Y' ∷ 'N' ∷ []
 
@@ -84,13 +84,21 @@ level = '1' ∷ '2' ∷ '3' ∷ []
 unfoldable pub action : List ℕ
 action = '0' ∷ '1' ∷ '2' ∷ []
 
+-- h: market code
+unfoldable pub market : List ℕ
+market = 'Q' ∷ 'B' ∷ 'X' ∷ []
+
+-- h: action
+unfoldable pub halt : List ℕ
+halt = 'H' ∷ 'T' ∷ []
+
 -- all of them, in the order in which the bits of a mask count them
 abbrev pub sets : List (List ℕ)
 sets =
     side ∷ yesNo ∷ tradingState ∷ direction ∷ imbalanceCross
     ∷ qualifier ∷ makerMode ∷ participantState ∷ interest ∷ cross
     ∷ category ∷ status ∷ class ∷ authenticity ∷ flag
-    ∷ tier ∷ etpFlag ∷ event ∷ level ∷ action ∷ []
+    ∷ tier ∷ etpFlag ∷ event ∷ level ∷ action ∷ market ∷ halt ∷ []
 
 -- a code of two bytes, as the number that they are
 abbrev pub pair : ℕ → ℕ → ℕ

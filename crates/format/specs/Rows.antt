@@ -1,12 +1,15 @@
--- The layouts: the header, the 21 rows, and what reading one window answers.
+-- The layouts: the header, the 21 rows of the old edition and the two that the later one adds, and what reading one window answers.
 -- Assumes nothing.
 use Prim.Native.Nat.{ℕ}
 use mathlib.Core.List.{List, [], _∷_, _++_}
 use mathlib.Core.Bool.{cond}
 use lib.Dec.{eqb}
 use lib.ListN.{getD, drop}
-use Rattle.format.specs.Ascii.{'A', 'B', 'C', 'D', 'E', 'F', 'H', 'I', 'J', 'K', 'L', 'N', 'P', 'Q', 'R', 'S', 'U', 'V', 'W', 'X', 'Y'}
-use Rattle.format.specs.Codes.{side, yesNo, tradingState, direction, imbalanceCross, qualifier, makerMode, participantState, interest, cross, category, status, class, authenticity, flag, tier, etpFlag, event, level, action}
+use Rattle.format.specs.Ascii.{'A', 'B', 'C', 'D', 'E', 'F', 'H', 'I', 'J', 'K', 'L', 'N', 'O', 'P', 'Q', 'R', 'S', 'U', 'V', 'W', 'X', 'Y', 'h'}
+use Rattle.format.specs.Codes.{side, yesNo, tradingState, direction, imbalanceCross, qualifier, makerMode, participantState, interest, cross, category, status, class, authenticity, flag, tier, etpFlag, event, level, action, market, halt}
+use Rattle.format.specs.declared.Edition.{Edition}
+use Rattle.format.specs.declared.Edition.the-variants.{Old, Later}
+use Rattle.format.specs.declared.Reading.{Reading}
 use Rattle.format.specs.Layout.{Kind, num, time, text, code, subtype, Answer, accepted, refuses, read}
 
 -- a tag, its size from the tag on, and the fields of its body
@@ -26,8 +29,9 @@ order = num 8 ∷ code side ∷ num 4 ∷ text 8 ∷ num 4 ∷ []
 abbrev pub execution : List Kind
 execution = num 8 ∷ num 4 ∷ num 8 ∷ []
 
-abbrev pub rows : List Row
-rows =
+-- the old edition's
+abbrev pub base : List Row
+base =
     -- add order: as above; with mpid
     row 'A' 36 order
     ∷ row 'F' 40 (order ++ (text 4 ∷ []))
@@ -73,6 +77,28 @@ rows =
     ∷ row 'Y' 20 (text 8 ∷ code action ∷ [])
     ∷ []
 
+-- those that the later edition adds
+abbrev pub added : List Row
+added =
+    -- operational halt: stock, market code, action
+    row 'h' 21 (text 8 ∷ code market ∷ code halt ∷ [])
+    -- direct listing with capital raise: stock, open eligibility, minimum price, maximum price, near execution price, near execution time,
+    -- lower collar, upper collar
+    ∷ row 'O' 48 (text 8 ∷ code yesNo ∷ num 4 ∷ num 4 ∷ num 4 ∷ num 8 ∷ num 4 ∷ num 4 ∷ [])
+    ∷ []
+
+-- all rows, whatever the edition: no tag has two
+abbrev pub rows : List Row
+rows = base ++ added
+
+-- the rows that an edition adds, and those of a reading
+abbrev pub later : Edition → List Row
+later Old = []
+later Later = added
+
+abbrev pub rowsIn : Reading → List Row
+rowsIn rd = base ++ later (rd .edition)
+
 -- the row of a tag, if there is one
 pub data Found : Type 0 where
   found : Row → Found
@@ -95,6 +121,10 @@ sizeIn none = 0
 unfoldable pub sizeOf : ℕ → ℕ
 sizeOf t = sizeIn (find rows t)
 
+-- a tag's size by a reading, zero where the reading has no such tag
+unfoldable pub sizeBy : Reading → ℕ → ℕ
+sizeBy rd t = sizeIn (find (rowsIn rd) t)
+
 -- a body under its tag's row, after the values vs: an unknown tag is refusal 1 at place 2
 abbrev pub under : Found → List ℕ → ℕ → List ℕ → Answer
 under (found r) s at vs = read (r .body) s at vs accepted
@@ -106,16 +136,23 @@ header = num 2 ∷ num 1 ∷ num 2 ∷ num 2 ∷ time ∷ []
 
 -- what follows the header's values h: the tag is judged, then the body's fields. The length is ignored. The values are tag, locate, tracking
 -- number and timestamp, then the tag once more, which tells apart the bodies of like fields (D and B), then the body's
-abbrev pub message : List ℕ → List ℕ → ℕ → Answer
-message s h at = under (find rows (getD h 1 0)) s at (drop 1 h ++ (getD h 1 0 ∷ []))
+abbrev pub message : Reading → List ℕ → List ℕ → ℕ → Answer
+message rd s h at = under (find (rowsIn rd) (getD h 1 0)) s at (drop 1 h ++ (getD h 1 0 ∷ []))
 
 -- what reading a window answers
-unfoldable pub window : List ℕ → Answer
-window s = read header s 0 [] (message s)
+unfoldable pub window : Reading → List ℕ → Answer
+window rd s = read header s 0 [] (message rd s)
 
--- the parts of that answer which the code reads by functions of their own: the header without its length, and the body of a tag
+-- the parts of that answer which the code reads by functions of their own: the header without its length; the body of a tag, in any edition and
+-- by a reading; and the body of a tag that an edition adds
 unfoldable pub headerOf : List ℕ → Answer
 headerOf s = read header s 0 [] (λ h. accepted (drop 1 h))
 
 unfoldable pub bodyOf : ℕ → List ℕ → Answer
 bodyOf t s = under (find rows t) s 13 (t ∷ [])
+
+unfoldable pub bodyIn : Reading → ℕ → List ℕ → Answer
+bodyIn rd t s = under (find (rowsIn rd) t) s 13 (t ∷ [])
+
+unfoldable pub bodyLater : Edition → ℕ → List ℕ → Answer
+bodyLater e t s = under (find (later e) t) s 13 (t ∷ [])

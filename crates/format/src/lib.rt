@@ -12,6 +12,17 @@ ghost use Rattle.format.specs.Utf8.{lead, utfStep, isFresh, wellFormed, 
 ghost use Rattle.format.specs.Rows.{headerOf};
 ghost use Rattle.format.specs.Meaning.{num8M, num16M, num32M, num64M, fault8, fault16, fault32, fault64, utfM, headerM};
 
+// Which printing of the format: the old one, or the later ones, which have two messages more, h and O.
+pub enum Edition {
+    Old,
+    Later,
+}
+
+// How a message is to be read or written. Who reads or writes takes it by value, last.
+pub struct Reading {
+    pub edition: Edition,
+}
+
 // Why a field has no value: not all of its bytes are there, or it is refused, with the number and the place.
 pub enum Fault {
     Short,

@@ -11,7 +11,7 @@ use Rattle.standard.specs.Reads.{Silent}
 use Rattle.reader.specs.Window.{windowOf}
 use Rattle.walk.specs.declared.Walk.{Walk}
 use Rattle.walk.specs.declared.Answer.the-variants.{Refused}
-use Rattle.walk.specs.Walk.{stepOf}
+use Rattle.walk.specs.Walk.{ownStep}
 use Rattle.lines.specs.declared.Blocked.{Blocked}
 use Rattle.lines.specs.Lines.{closingOf}
 use Rattle.lines.specs.Blocks.{Called}
@@ -23,14 +23,14 @@ pub record Lines (s : Sent) (b : List ℕ) (i : ℕ) (r : Blocked) (text : List 
   pub good : s .written .taken ≡ true
   pub out : List ℕ
   pub after : List ℕ
-  pub called : Called (s .quiet) windowOf (s .state) b i out 0 after r
+  pub called : Called (s .quiet) (windowOf (s .state .reading)) (s .state) b i out 0 after r
   pub lines : text ≡ take (r .at) after
 
 -- the walk can no further: the step from w on, over what is left of a block, refuses 33
 pub record Refuses (w : Walk) : Type 0 where
   pub block : List ℕ
   pub place : ℕ
-  pub answer : stepOf windowOf w (drop place block) .answer ≡ Refused 33
+  pub answer : ownStep w (drop place block) .answer ≡ Refused 33
 
 -- all that the reads brought was walked, and the last of them brought nothing
 pub record AllWalked (w : Walk) (b : Brought) : Type 0 where

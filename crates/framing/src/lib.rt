@@ -6,11 +6,13 @@ ghost use mathlib.Core.Bool.{true};
 ghost use lib.ListN.{length};
 ghost use Rattle.reader.specs.Window.{windowOf};
 ghost use Rattle.demand.specs.Promises.{Reached};
+ghost use Rattle.words.specs.Words.{readingOf};
 ghost use Rattle.framing.specs.Told.{Behind, ReadSome, Ended, Finished, endingOf};
 
 mod closing;
 mod sent;
 
+use format::Reading;
 pub use sent::Sent;
 use standard::Brought;
 use words::Ending;
@@ -24,8 +26,8 @@ struct Put {
 
 // Walks a block, and writes the lines of the frames that end in it, a buffer at a time.
 fn put_block(s: Sent, block: &[u8], out: &mut [u8]) -> Put
-    requires { ⌜ Reached windowOf (s .state) × (s .written .taken ≡ true) × (137 ≤ length (now out)) ⌝ }
-    ensures { λ r. ⌜ Behind (s .quiet) (now (block .entry)) (s .state) (r .sent) (r .whole) ⌝ }
+    requires { ⌜ Reached (windowOf (s .state .reading)) (s .state .reading) (s .state) × (s .written .taken ≡ true) × (137 ≤ length (now out)) ⌝ }
+    ensures { λ r. ⌜ Behind (s .quiet) (s .state .reading) (now (block .entry)) (s .state) (r .sent) (r .whole) ⌝ }
 {
     let quiet = sent::quiet(s);
     let mut sent = s;
@@ -65,7 +67,7 @@ struct Turn {
 
 // One read, and the frames that end in it.
 fn read_some(s: Sent, b: Brought, buf: &mut [u8], out: &mut [u8]) -> Turn
-    requires { ⌜ Reached windowOf (s .state) × (s .written .taken ≡ true) × (137 ≤ length (now out)) ⌝ }
+    requires { ⌜ Reached (windowOf (s .state .reading)) (s .state .reading) (s .state) × (s .written .taken ≡ true) × (137 ≤ length (now out)) ⌝ }
     ensures { λ r. ⌜ ReadSome s b r (now (buf .exit)) ⌝ }
 {
     let brought = standard::read(b, buf);
@@ -88,12 +90,12 @@ fn read_some(s: Sent, b: Brought, buf: &mut [u8], out: &mut [u8]) -> Turn
     }
 }
 
-// Reads to the end.
-fn read_all(quiet: bool, buf: &mut [u8], out: &mut [u8]) -> Turn
+// Reads to the end, all by one reading.
+fn read_all(quiet: bool, buf: &mut [u8], out: &mut [u8], reading: Reading) -> Turn
     requires { ⌜ (0 < length (now buf)) × (137 ≤ length (now out)) ⌝ }
-    ensures { λ r. ⌜ Ended quiet r ⌝ }
+    ensures { λ r. ⌜ Ended quiet reading r ⌝ }
 {
-    let mut sent = sent::begun(quiet);
+    let mut sent = sent::begun(quiet, reading);
     let mut b = standard::unread();
     loop {
         let t = read_some(sent, b, buf, out);
@@ -148,11 +150,12 @@ fn report(words: Words, s: Sent, b: Brought, whole: bool, o: Ending)
 
 // Walks standard input to its end and prints, as the words ask. The answer tells of the last write.
 pub fn print_frames(words: Words) -> Sent
-    ensures { λ r. ⌜ Finished (words .quiet) r ⌝ }
+    ensures { λ r. ⌜ Finished (words .quiet) (readingOf words) r ⌝ }
 {
+    let reading = words::reading(words);
     let mut buf = io::large_buffer();
     let mut out = io::large_buffer();
-    let t = read_all(words.quiet, &mut buf, &mut out);
+    let t = read_all(words.quiet, &mut buf, &mut out, reading);
     let sent = t.sent;
     let brought = t.brought;
     if !sent::taken(sent) {
@@ -173,5 +176,5 @@ pub fn start() {
         print_frames(w);
         return;
     }
-    words::misuse(w, b"frames: its words are quiet and status\n");
+    words::misuse(w, b"frames: its words are quiet, later and status\n");
 }

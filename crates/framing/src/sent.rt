@@ -5,6 +5,7 @@ ghost use mathlib.Core.Bool.{true, false};
 ghost use lib.ListN.{length};
 ghost use Rattle.walk.specs.Walk.{freshOf};
 ghost use Rattle.framing.specs.Texts.{Lines, Closes};
+use format::Reading;
 use lines::Blocked;
 use standard::Brought;
 use standard::Written;
@@ -18,13 +19,13 @@ pub struct Sent {
     closed: bool,
 }
 
-// Nothing, at the fresh state.
-pub(super) fn begun(quiet: bool) -> Sent
+// Nothing, at the fresh state of a walk by this reading.
+pub(super) fn begun(quiet: bool, reading: Reading) -> Sent
     ensures { λ r. ⌜ r .quiet ≡ quiet ⌝ }
-    ensures { λ r. ⌜ r .state ≡ freshOf ⌝ }
+    ensures { λ r. ⌜ r .state ≡ freshOf reading ⌝ }
     ensures { λ r. ⌜ r .written .taken ≡ true ⌝ }
 {
-    let state = walk::fresh();
+    let state = walk::fresh(reading);
     let written = standard::unwritten();
     Sent {
         quiet,

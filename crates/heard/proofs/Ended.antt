@@ -7,6 +7,7 @@ use mathlib.Core.List.{List, [], _∷_, _++_, append-nil}
 use mathlib.Core.Logic.{_⊎_, inl, inr}
 use native.Mathlib.Omega.{arith}
 use lib.ListN.{length}
+use Rattle.format.specs.declared.Reading.{Reading}
 use Rattle.records.specs.declared.Message.{Message as Record}
 use Rattle.reader.specs.declared.Window.the-variants.{Incomplete}
 use Rattle.reader.specs.Window.{windowOf}
@@ -29,13 +30,13 @@ use Rattle.heard.proofs.Windows.{length-window, room-same}
 use Rattle.heard.proofs.Holds.{Holds, roomed-holds, holds}
 
 -- with what the input holds; or with 33, where the counts have no room for it
-abbrev pub Ends : List ℕ → List Record → Answer → Type 0
-Ends input ms a = (heardOf input ≡ record { messages = ms; stop = a }) ⊎ ((a ≡ Refused 33 0) × (Fits input → ⊥))
+abbrev pub Ends : Reading → List ℕ → List Record → Answer → Type 0
+Ends rd input ms a = (heardOf rd input ≡ record { messages = ms; stop = a }) ⊎ ((a ≡ Refused 33 0) × (Fits input → ⊥))
 
 -- the messages so far are all, and a is the stop
-last : (input : List ℕ) (ms : List Record) (h : Heard) (a : Answer) → heardOf input ≡ before ms h → h ≡ ends a
-    → heardOf input ≡ record { messages = ms; stop = a }
-last input ms h a e f = e ∙ ap (before ms) f ∙ ap (λ (x : List Record). record { messages = x; stop = a }) (append-nil ms)
+last : (rd : Reading) (input : List ℕ) (ms : List Record) (h : Heard) (a : Answer) → heardOf rd input ≡ before ms h → h ≡ ends a
+    → heardOf rd input ≡ record { messages = ms; stop = a }
+last rd input ms h a e f = e ∙ ap (before ms) f ∙ ap (λ (x : List Record). record { messages = x; stop = a }) (append-nil ms)
 
 -- where the mark is clear, a refusal is told
 clear-marks : (s : Stream) (n p : ℕ) → s .error ≡ false → marks s n p .answer ≡ Refused n p
@@ -43,30 +44,30 @@ clear-marks s n p e = rw e
 
 -- ---- next stops
 
-next-ends : (input : List ℕ) (s : Stream) (b r : List ℕ) (ms : List Record) (x : Step) → Next s b x → stops (x .answer) ≡ true
-    → Holds input 0 s b r ms → Ends input ms (x .answer)
+next-ends : (rd : Reading) (input : List ℕ) (s : Stream) (b r : List ℕ) (ms : List Record) (x : Step) → Next rd s b x → stops (x .answer) ≡ true
+    → Holds rd input 0 s b r ms → Ends rd input ms (x .answer)
 unfolding stops
-next-ends input s b r ms _ (no-next (31-next f)) e q = absurd (f (q .whole))
-next-ends input s b r ms _ (no-next (30-next f)) e q = absurd (f (q .sound))
-next-ends input s b r ms _ (no-next (33-next f)) e q = inr (refl, λ l. omega (arith, q .counted, q .bytes))
-next-ends input s b r ms _ (message h l m n w f) e q = let z : _≡_ {A = ℕ} 0 1 = cc in absurd (omega arith)
-next-ends input s b r ms _ (wants h l w) e q = let z : _≡_ {A = ℕ} 0 1 = cc in absurd (omega arith)
-next-ends input s b r ms _ (marked-next h l n p w) e q =
+next-ends rd input s b r ms _ (no-next (31-next f)) e q = absurd (f (q .whole))
+next-ends rd input s b r ms _ (no-next (30-next f)) e q = absurd (f (q .sound))
+next-ends rd input s b r ms _ (no-next (33-next f)) e q = inr (refl, λ l. omega (arith, q .counted, q .bytes))
+next-ends rd input s b r ms _ (message h l m n w f) e q = let z : _≡_ {A = ℕ} 0 1 = cc in absurd (omega arith)
+next-ends rd input s b r ms _ (wants h l w) e q = let z : _≡_ {A = ℕ} 0 1 = cc in absurd (omega arith)
+next-ends rd input s b r ms _ (marked-next h l n p w) e q =
     let v = windowAt s b in
-    let k = keeps v r (λ (f : windowOf v ≡ Incomplete). let z : _≡_ {A = ℕ} 0 1 = cc in omega arith) in
-    rw (clear-marks s n p (q .clear)) (inl (last input ms (heardOf (v ++ r)) (Refused n p) (q .heard) (heard-bad (v ++ r) n p (k ∙ w))))
+    let k = keeps rd v r (λ (f : windowOf rd v ≡ Incomplete). let z : _≡_ {A = ℕ} 0 1 = cc in omega arith) in
+    rw (clear-marks s n p (q .clear)) (inl (last rd input ms (heardOf rd (v ++ r)) (Refused n p) (q .heard) (heard-bad rd (v ++ r) n p (k ∙ w))))
 
 -- ---- room is refused
 
-room-ends : (input : List ℕ) (s : Stream) (b r : List ℕ) (ms : List Record) (x : Step) → Room s (length b) x → stops (x .answer) ≡ true
-    → s .end - s .start ≤ 51 → Holds input 0 s b r ms → Ends input ms (x .answer)
+room-ends : (rd : Reading) (input : List ℕ) (s : Stream) (b r : List ℕ) (ms : List Record) (x : Step) → Room s (length b) x → stops (x .answer) ≡ true
+    → s .end - s .start ≤ 51 → Holds rd input 0 s b r ms → Ends rd input ms (x .answer)
 unfolding stops
-room-ends input s b r ms _ (no-room (31-room f)) e g q = absurd (f (q .whole))
-room-ends input s b r ms _ (no-room (30-room f)) e g q = absurd (f (q .sound))
-room-ends input s b r ms _ (no-room (34-room f)) e g q = absurd (omega arith)
-room-ends input s b r ms _ (no-room (33-room f)) e g q = inr (refl, λ l. omega (arith, q .calls, q .bytes))
-room-ends input s b r ms _ (made (front p a)) e g q = let z : _≡_ {A = ℕ} 0 1 = cc in absurd (omega arith)
-room-ends input s b r ms _ (made (there p a)) e g q = let z : _≡_ {A = ℕ} 0 1 = cc in absurd (omega arith)
+room-ends rd input s b r ms _ (no-room (31-room f)) e g q = absurd (f (q .whole))
+room-ends rd input s b r ms _ (no-room (30-room f)) e g q = absurd (f (q .sound))
+room-ends rd input s b r ms _ (no-room (34-room f)) e g q = absurd (omega arith)
+room-ends rd input s b r ms _ (no-room (33-room f)) e g q = inr (refl, λ l. omega (arith, q .calls, q .bytes))
+room-ends rd input s b r ms _ (made (front p a)) e g q = let z : _≡_ {A = ℕ} 0 1 = cc in absurd (omega arith)
+room-ends rd input s b r ms _ (made (there p a)) e g q = let z : _≡_ {A = ℕ} 0 1 = cc in absurd (omega arith)
 
 -- ---- told stops
 
@@ -76,44 +77,44 @@ cut-inside [] h = absurd (omega arith)
 cut-inside (x ∷ w) h = refl
 
 -- nothing came, and nothing was left
-at-end : (input : List ℕ) (s : Stream) (b r : List ℕ) (ms : List Record) (a : Answer) → windowOf (windowAt s b) ≡ Incomplete → r ≡ []
-    → stopAt (windowAt s b) ≡ a → Holds input 1 s b r ms → Ends input ms a
-at-end input s b r ms a w z d q =
+at-end : (rd : Reading) (input : List ℕ) (s : Stream) (b r : List ℕ) (ms : List Record) (a : Answer) → windowOf rd (windowAt s b) ≡ Incomplete → r ≡ []
+    → stopAt (windowAt s b) ≡ a → Holds rd input 1 s b r ms → Ends rd input ms a
+at-end rd input s b r ms a w z d q =
     let v = windowAt s b in
     let i : v ++ r ≡ v = ap (λ (x : List ℕ). v ++ x) z ∙ append-nil v in
-    inl (last input ms (heardOf (v ++ r)) a (q .heard) (ap heardOf i ∙ heard-cut v w ∙ ap ends d))
+    inl (last rd input ms (heardOf rd (v ++ r)) a (q .heard) (ap (heardOf rd) i ∙ heard-cut rd v w ∙ ap ends d))
 
-told-ends : (input : List ℕ) (s : Stream) (b r : List ℕ) (ms : List Record) {may : Cutting} (y : Read may (s .end) b r) (x : Step)
-    → Told s (y .brings .count) x → stops (x .answer) ≡ true → windowOf (windowAt s b) ≡ Incomplete
-    → Holds input 1 s b r ms → Ends input ms (x .answer)
+told-ends : (rd : Reading) (input : List ℕ) (s : Stream) (b r : List ℕ) (ms : List Record) {may : Cutting} (y : Read may (s .end) b r) (x : Step)
+    → Told s (y .brings .count) x → stops (x .answer) ≡ true → windowOf rd (windowAt s b) ≡ Incomplete
+    → Holds rd input 1 s b r ms → Ends rd input ms (x .answer)
 unfolding stops
-told-ends input s b r ms y _ (no-told (30-told f)) e g q = absurd (f (q .sound))
-told-ends input s b r ms y _ (no-told (32-told f)) e g q = absurd (omega (arith, y .brings .fits, q .whole))
-told-ends input s b r ms y _ (no-told (33-told f)) e g q = inr (refl, λ l. omega (arith, y .brings .left, q .bytes))
-told-ends input s b r ms y _ (came h k c d) e g q = let z : _≡_ {A = ℕ} 0 1 = cc in absurd (omega arith)
-told-ends input s b r ms y _ (nothing h k d) e g q =
+told-ends rd input s b r ms y _ (no-told (30-told f)) e g q = absurd (f (q .sound))
+told-ends rd input s b r ms y _ (no-told (32-told f)) e g q = absurd (omega (arith, y .brings .fits, q .whole))
+told-ends rd input s b r ms y _ (no-told (33-told f)) e g q = inr (refl, λ l. omega (arith, y .brings .left, q .bytes))
+told-ends rd input s b r ms y _ (came h k c d) e g q = let z : _≡_ {A = ℕ} 0 1 = cc in absurd (omega arith)
+told-ends rd input s b r ms y _ (nothing h k d) e g q =
     let z : s .end - s .start ≡ 0 = omega arith in
-    at-end input s b r ms Nothing g (y .brings .some k) (rw z) q
-told-ends input s b r ms y _ (marked-told h k f) e g q =
+    at-end rd input s b r ms Nothing g (y .brings .some k) (rw z) q
+told-ends rd input s b r ms y _ (marked-told h k f) e g q =
     let l = length-window s b h (q .whole) in
     rw (clear-marks s 10 0 (q .clear))
-    (at-end input s b r ms (Refused 10 0) g (y .brings .some k) (cut-inside (windowAt s b) (omega (arith, h .ordered, f))) q)
+    (at-end rd input s b r ms (Refused 10 0) g (y .brings .some k) (cut-inside (windowAt s b) (omega (arith, h .ordered, f))) q)
 
 -- ---- so every run
 
 -- where room was made the window still wants bytes
-still-short : (s : Stream) (b : List ℕ) → nextOf s b .answer ≡ Wants → roomed s b .answer ≡ Ready
-    → windowOf (windowAt (roomed s b .state) (roomBuffer (nextOf s b .state) b)) ≡ Incomplete
-still-short s b w e =
-    let k = next-waits s b w in
-    ap windowOf (room-same (nextOf s b .state) b e .window ∙ ap (λ (x : Stream). windowAt x b) (k .kept)) ∙ k .short
+still-short : (rd : Reading) (s : Stream) (b : List ℕ) → nextOf rd s b .answer ≡ Wants → roomed rd s b .answer ≡ Ready
+    → windowOf rd (windowAt (roomed rd s b .state) (roomBuffer (nextOf rd s b .state) b)) ≡ Incomplete
+still-short rd s b w e =
+    let k = next-waits rd s b w in
+    ap (windowOf rd) (room-same (nextOf rd s b .state) b e .window ∙ ap (λ (x : Stream). windowAt x b) (k .kept)) ∙ k .short
 
-pub ended : {may : Cutting} {input : List ℕ} {ms : List Record} {a : Answer} → Stopped may input ms a → Ends input ms a
-ended {input = input} (by-next {s = s} {b = b} {r = r} {ms = ms} p e) = next-ends input s b r ms (nextOf s b) (next-is s b) e (holds p)
-ended {input = input} (by-room {s = s} {b = b} {r = r} {ms = ms} p w e) =
-    let k = next-waits s b w .kept in
-    room-ends input (nextOf s b .state) b r ms (roomed s b) (room-is (nextOf s b .state) (length b)) e
-    (rw k (short s b w)) (rw k (holds p))
-ended {may} {input = input} (by-told {s = s} {b = b} {r = r} {ms = ms} p w e q t) =
-    told-ends input (roomed s b .state) (roomBuffer (nextOf s b .state) b) r ms q (toldAt may s b r q)
-    (told-is (roomed s b .state) (q .brings .count)) t (still-short s b w e) (roomed-holds input s b r ms w e (holds p))
+pub ended : {rd : Reading} {may : Cutting} {input : List ℕ} {ms : List Record} {a : Answer} → Stopped rd may input ms a → Ends rd input ms a
+ended {rd} {input = input} (by-next {s = s} {b = b} {r = r} {ms = ms} p e) = next-ends rd input s b r ms (nextOf rd s b) (next-is rd s b) e (holds p)
+ended {rd} {input = input} (by-room {s = s} {b = b} {r = r} {ms = ms} p w e) =
+    let k = next-waits rd s b w .kept in
+    room-ends rd input (nextOf rd s b .state) b r ms (roomed rd s b) (room-is (nextOf rd s b .state) (length b)) e
+    (rw k (short rd s b w)) (rw k (holds p))
+ended {rd} {may} {input = input} (by-told {s = s} {b = b} {r = r} {ms = ms} p w e q t) =
+    told-ends rd input (roomed rd s b .state) (roomBuffer (nextOf rd s b .state) b) r ms q (toldAt rd may s b r q)
+    (told-is (roomed rd s b .state) (q .brings .count)) t (still-short rd s b w e) (roomed-holds rd input s b r ms w e (holds p))

@@ -1,9 +1,10 @@
--- What an input holds for a stream that reads it: its messages in order, and the answer that ends them. It is said of the input alone: there is no
--- buffer in it, and no read.
+-- What an input holds for a stream that reads it by a reading: its messages in order, and the answer that ends them. It is said of the input alone: there
+-- is no buffer in it, and no read.
 -- Assumes nothing.
 use Prim.Native.Nat.{ℕ, zero, suc, _≤_}
 use mathlib.Core.List.{List, [], _∷_, _++_}
 use lib.ListN.{length, drop}
+use Rattle.format.specs.declared.Reading.{Reading}
 use Rattle.records.specs.declared.Message.{Message as Record}
 use Rattle.reader.specs.Window.{windowOf}
 use Rattle.reader.specs.declared.Window.{Window}
@@ -34,13 +35,13 @@ heardBy s Incomplete go = ends (stopAt s)
 heardBy s (Bad n p) go = ends (Refused n p)
 
 -- at most k messages are looked for
-unfoldable pub heardAt : ℕ → List ℕ → Heard
-heardAt zero s = ends (stopAt s)
-heardAt (suc k) s = heardBy s (windowOf s) (λ n. heardAt k (drop n s))
+unfoldable pub heardAt : Reading → ℕ → List ℕ → Heard
+heardAt rd zero s = ends (stopAt s)
+heardAt rd (suc k) s = heardBy s (windowOf rd s) (λ n. heardAt rd k (drop n s))
 
 -- a message has a byte at least, so there are no more messages than bytes
-abbrev pub heardOf : List ℕ → Heard
-heardOf s = heardAt (length s) s
+abbrev pub heardOf : Reading → List ℕ → Heard
+heardOf rd s = heardAt rd (length s) s
 
 -- the answers that can be the stop: nothing more; 1, 2 or 3 at a place; 10
 pub data Stop : Answer → Type 0 where

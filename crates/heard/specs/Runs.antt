@@ -1,5 +1,5 @@
--- Runs of the stream's calls over an input, as a caller makes them: next is tried; a message is taken and next tried again; where next wants bytes
--- room is made, a read brings some bytes into the free part, and the state is told how many. Each state and each buffer is what the definition of the
+-- Runs of the stream's calls over an input, by one reading, as a caller makes them: next is tried; a message is taken and next tried again; where next wants
+-- bytes room is made, a read brings some bytes into the free part, and the state is told how many. Each state and each buffer is what the definition of the
 -- call gives, and the first answer that is nothing more or a refusal ends the run.
 -- Assumes nothing.
 use Prim.Native.Nat.{ℕ, suc, _+_, _-_, _≤_, _<_, min}
@@ -7,6 +7,7 @@ use mathlib.Core.Path.{_≡_}
 use mathlib.Core.Bool.{true}
 use mathlib.Core.List.{List, [], _∷_, _++_}
 use lib.ListN.{length, take, drop}
+use Rattle.format.specs.declared.Reading.{Reading}
 use Rattle.records.specs.declared.Message.{Message as Record}
 use Rattle.stream.specs.declared.Stream.{Stream}
 use Rattle.stream.specs.declared.Step.{Step}
@@ -47,35 +48,35 @@ pub record Read (may : Cutting) (e : ℕ) (b r : List ℕ) : Type 0 where
   pub put : take (e + brings .count) buffer ≡ take e b ++ take (brings .count) r
 
 -- room, made in the state that next left
-abbrev pub roomed : Stream → List ℕ → Step
-roomed s b = roomOf (nextOf s b .state) (length b)
+abbrev pub roomed : Reading → Stream → List ℕ → Step
+roomed rd s b = roomOf (nextOf rd s b .state) (length b)
 
 -- the read that follows
-abbrev pub ReadAt : Cutting → Stream → List ℕ → List ℕ → Type 0
-ReadAt may s b r = Read may (roomed s b .state .end) (roomBuffer (nextOf s b .state) b) r
+abbrev pub ReadAt : Reading → Cutting → Stream → List ℕ → List ℕ → Type 0
+ReadAt rd may s b r = Read may (roomed rd s b .state .end) (roomBuffer (nextOf rd s b .state) b) r
 
 -- and what is told then
-abbrev pub toldAt : (may : Cutting) (s : Stream) (b r : List ℕ) → ReadAt may s b r → Step
-toldAt may s b r q = toldOf (roomed s b .state) (q .brings .count)
+abbrev pub toldAt : (rd : Reading) (may : Cutting) (s : Stream) (b r : List ℕ) → ReadAt rd may s b r → Step
+toldAt rd may s b r q = toldOf (roomed rd s b .state) (q .brings .count)
 
 -- a run so far: the state, the buffer, what is left of the input, and the messages answered, in order
-pub data Run (may : Cutting) (input : List ℕ) : Stream → List ℕ → List ℕ → List Record → Type 0 where
-  fresh : {b : List ℕ} → length b ≡ 8192 → Run may input freshState b input []
-  message : {s : Stream} {b r : List ℕ} {ms : List Record} → Run may input s b r ms → (m : Record) → nextOf s b .answer ≡ Message m
-      → Run may input (nextOf s b .state) b r (ms ++ (m ∷ []))
-  read : {s : Stream} {b r : List ℕ} {ms : List Record} → Run may input s b r ms → nextOf s b .answer ≡ Wants → roomed s b .answer ≡ Ready
-      → (q : ReadAt may s b r) → toldAt may s b r q .answer ≡ Ready
-      → Run may input (toldAt may s b r q .state) (q .buffer) (drop (q .brings .count) r) ms
+pub data Run (rd : Reading) (may : Cutting) (input : List ℕ) : Stream → List ℕ → List ℕ → List Record → Type 0 where
+  fresh : {b : List ℕ} → length b ≡ 8192 → Run rd may input freshState b input []
+  message : {s : Stream} {b r : List ℕ} {ms : List Record} → Run rd may input s b r ms → (m : Record) → nextOf rd s b .answer ≡ Message m
+      → Run rd may input (nextOf rd s b .state) b r (ms ++ (m ∷ []))
+  read : {s : Stream} {b r : List ℕ} {ms : List Record} → Run rd may input s b r ms → nextOf rd s b .answer ≡ Wants → roomed rd s b .answer ≡ Ready
+      → (q : ReadAt rd may s b r) → toldAt rd may s b r q .answer ≡ Ready
+      → Run rd may input (toldAt rd may s b r q .state) (q .buffer) (drop (q .brings .count) r) ms
 
 -- a run that has ended: the messages answered, and the answer that ended it
-pub data Stopped (may : Cutting) (input : List ℕ) : List Record → Answer → Type 0 where
-  by-next : {s : Stream} {b r : List ℕ} {ms : List Record} → Run may input s b r ms → stops (nextOf s b .answer) ≡ true
-      → Stopped may input ms (nextOf s b .answer)
-  by-room : {s : Stream} {b r : List ℕ} {ms : List Record} → Run may input s b r ms → nextOf s b .answer ≡ Wants → stops (roomed s b .answer) ≡ true
-      → Stopped may input ms (roomed s b .answer)
-  by-told : {s : Stream} {b r : List ℕ} {ms : List Record} → Run may input s b r ms → nextOf s b .answer ≡ Wants → roomed s b .answer ≡ Ready
-      → (q : ReadAt may s b r) → stops (toldAt may s b r q .answer) ≡ true
-      → Stopped may input ms (toldAt may s b r q .answer)
+pub data Stopped (rd : Reading) (may : Cutting) (input : List ℕ) : List Record → Answer → Type 0 where
+  by-next : {s : Stream} {b r : List ℕ} {ms : List Record} → Run rd may input s b r ms → stops (nextOf rd s b .answer) ≡ true
+      → Stopped rd may input ms (nextOf rd s b .answer)
+  by-room : {s : Stream} {b r : List ℕ} {ms : List Record} → Run rd may input s b r ms → nextOf rd s b .answer ≡ Wants → stops (roomed rd s b .answer) ≡ true
+      → Stopped rd may input ms (roomed rd s b .answer)
+  by-told : {s : Stream} {b r : List ℕ} {ms : List Record} → Run rd may input s b r ms → nextOf rd s b .answer ≡ Wants → roomed rd s b .answer ≡ Ready
+      → (q : ReadAt rd may s b r) → stops (toldAt rd may s b r q .answer) ≡ true
+      → Stopped rd may input ms (toldAt rd may s b r q .answer)
 
 -- an input whose bytes, messages and read calls can be counted, the last call too, which brings nothing: it has less than 2^64 - 1 bytes
 abbrev pub Fits : List ℕ → Type 0

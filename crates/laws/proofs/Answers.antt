@@ -7,6 +7,7 @@ use native.Mathlib.Omega.{arith}
 use lib.ListN.{length, take, getD}
 use Rattle.format.specs.Layout.{Answer, accepted, incomplete, refuses}
 use Rattle.format.specs.Rows.{sizeOf, window}
+use Rattle.format.specs.declared.Reading.{Reading}
 use Rattle.records.specs.declared.Message.{Message}
 use Rattle.reader.specs.declared.Window.{Window}
 use Rattle.reader.specs.declared.Window.the-variants.{Message as Accepted, Incomplete, Refused}
@@ -37,32 +38,32 @@ accepted-from incomplete m n e = let z : _≡_ {A = ℕ} 0 1 = cc in absurd (ome
 accepted-from (refuses k p) m n e = let z : _≡_ {A = ℕ} 0 1 = cc in absurd (omega arith)
 
 -- appended bytes change nothing of an acceptance or a refusal
-pub keeps : (s t : List ℕ) → (windowOf s ≡ Incomplete → ⊥) → windowOf (s ++ t) ≡ windowOf s
+pub keeps : (rd : Reading) (s t : List ℕ) → (windowOf rd s ≡ Incomplete → ⊥) → windowOf rd (s ++ t) ≡ windowOf rd s
 unfolding windowOf
-keeps s t h = ap windowFrom (window-keeps s t (firm (window s) h))
+keeps rd s t h = ap windowFrom (window-keeps rd s t (firm (window rd s) h))
 
 -- 52 bytes are never incomplete
-pub enough : (s : List ℕ) → 52 ≤ length s → windowOf s ≡ Incomplete → ⊥
+pub enough : (rd : Reading) (s : List ℕ) → 52 ≤ length s → windowOf rd s ≡ Incomplete → ⊥
 unfolding windowOf
-enough s l e = window-enough s l (incomplete-from (window s) e)
+enough rd s l e = window-enough rd s l (incomplete-from (window rd s) e)
 
 -- an accepted message consumed 2 + size of its tag; these bytes lie within the window, and a header is among them
-pub covers : (s : List ℕ) (m : Message) (n : ℕ) → windowOf s ≡ Accepted m n → (n ≡ 2 + sizeOf (m .tag)) × (n ≤ length s) × (13 ≤ n)
+pub covers : (rd : Reading) (s : List ℕ) (m : Message) (n : ℕ) → windowOf rd s ≡ Accepted m n → (n ≡ 2 + sizeOf (m .tag)) × (n ≤ length s) × (13 ≤ n)
 unfolding windowOf
-covers s m n e =
-    let a = accepted-from (window s) m n e in
-    rw (a .2) at (window-covers s (a .0) n (a .1))
+covers rd s m n e =
+    let a = accepted-from (window rd s) m n e in
+    rw (a .2) at (window-covers rd s (a .0) n (a .1))
 
 -- these bytes are accepted by themselves
-pub first : (s : List ℕ) (m : Message) (n : ℕ) → windowOf s ≡ Accepted m n → windowOf (take n s) ≡ Accepted m n
+pub first : (rd : Reading) (s : List ℕ) (m : Message) (n : ℕ) → windowOf rd s ≡ Accepted m n → windowOf rd (take n s) ≡ Accepted m n
 unfolding windowOf
-first s m n e =
-    let a = accepted-from (window s) m n e in
-    ap windowFrom (window-first s (a .0) n (a .1)) ∙ sym (ap windowFrom (a .1)) ∙ e
+first rd s m n e =
+    let a = accepted-from (window rd s) m n e in
+    ap windowFrom (window-first rd s (a .0) n (a .1)) ∙ sym (ap windowFrom (a .1)) ∙ e
 
 -- each strict prefix of an accepted message is incomplete
-pub prefix : (s t : List ℕ) (m : Message) (n : ℕ) → windowOf (s ++ t) ≡ Accepted m n → length s < n → windowOf s ≡ Incomplete
+pub prefix : (rd : Reading) (s t : List ℕ) (m : Message) (n : ℕ) → windowOf rd (s ++ t) ≡ Accepted m n → length s < n → windowOf rd s ≡ Incomplete
 unfolding windowOf
-prefix s t m n e l =
-    let a = accepted-from (window (s ++ t)) m n e in
-    ap windowFrom (window-prefix s t (a .0) n (a .1) l)
+prefix rd s t m n e l =
+    let a = accepted-from (window rd (s ++ t)) m n e in
+    ap windowFrom (window-prefix rd s t (a .0) n (a .1) l)

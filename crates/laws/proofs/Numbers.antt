@@ -9,7 +9,8 @@ use lib.Dec.{leb}
 use lib.ListN.{length, getD, drop}
 use Rattle.format.specs.Layout.{be, Kind, num, time, text, code, subtype, width, part, placed, Got, got, short, refused, judge, field, Answer, accepted, incomplete, refuses, step, read}
 use Rattle.format.specs.Codes.{subtypes}
-use Rattle.format.specs.Rows.{rows, Found, found, none, find, under, header, message, window}
+use Rattle.format.specs.Rows.{rowsIn, Found, found, none, find, under, header, message, window}
+use Rattle.format.specs.declared.Reading.{Reading}
 use Rattle.format.proofs.Fields.{text-cases, code-cases}
 use Rattle.reader.specs.declared.Window.the-variants.{Refused}
 use Rattle.reader.specs.Window.{windowFrom, windowOf}
@@ -53,15 +54,15 @@ under-low : (f : Found) (s : List ℕ) (at : ℕ) (vs : List ℕ) → Whole (und
 under-low (found r) s at vs = read-low (r .body) s at vs accepted (λ ws n. read-all)
 under-low none s at vs = low {n = 1} {p = 2} (omega arith, omega arith)
 
-window-low : (s : List ℕ) → Whole (window s)
+window-low : (rd : Reading) (s : List ℕ) → Whole (window rd s)
 unfolding window
-window-low s = read-low header s 0 [] (message s) (λ h at. under-low (find rows (getD h 1 0)) s at (drop 1 h ++ (getD h 1 0 ∷ [])))
+window-low rd s = read-low header s 0 [] (message rd s) (λ h at. under-low (find (rowsIn rd) (getD h 1 0)) s at (drop 1 h ++ (getD h 1 0 ∷ [])))
 
 from-low : (a : Answer) (n p : ℕ) → Whole a → windowFrom a ≡ Refused n p → (1 ≤ n) × (n ≤ 3)
 from-low (accepted vs k) n p w e = let z : _≡_ {A = ℕ} 0 1 = cc in absurd (omega arith)
 from-low incomplete n p w e = let z : _≡_ {A = ℕ} 0 1 = cc in absurd (omega arith)
 from-low (refuses m o) n p (low h) e = let q : m ≡ n = cc in (omega arith, omega arith)
 
-pub number-low : (s : List ℕ) (n p : ℕ) → windowOf s ≡ Refused n p → (1 ≤ n) × (n ≤ 3)
+pub number-low : (rd : Reading) (s : List ℕ) (n p : ℕ) → windowOf rd s ≡ Refused n p → (1 ≤ n) × (n ≤ 3)
 unfolding windowOf
-number-low s n p e = from-low (window s) n p (window-low s) e
+number-low rd s n p e = from-low (window rd s) n p (window-low rd s) e

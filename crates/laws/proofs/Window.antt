@@ -5,16 +5,18 @@
 use mathlib.Core.Path.{_≡_, refl, sym, ap, _∙_}
 use mathlib.Core.Bool.{Bool, true, false, cond, _&&_}
 use mathlib.Core.List.{List, [], _∷_, _++_}
-use mathlib.Core.Logic.{⊎-elim}
+use mathlib.Core.Logic.{_⊎_, inl, inr, ⊎-elim}
 use Prim.Native.Nat.{ℕ, _+_, _≤_, _<_}
 use native.Mathlib.Omega.{arith}
 use lib.Dec.{T, eqb, leb, leb→le, eqb→eq}
 use lib.ListN.{length, take, drop, getD, take-append-drop}
 use lib.Seq.{length-take-le, getD-take}
 use Rattle.format.specs.Layout.{widths, Answer, accepted, incomplete, refuses}
-use Rattle.format.specs.Rows.{Row, rows, Found, found, none, find, sizeIn, sizeOf, under, header, message, bodyOf, window}
+use Rattle.format.specs.Rows.{Row, rows, rowsIn, Found, found, none, find, sizeIn, sizeOf, under, header, message, bodyIn, window}
+use Rattle.format.specs.declared.Reading.{Reading}
 use Rattle.format.proofs.Tests.{both, le-or-lt}
 use Rattle.format.proofs.Windows.{pre, window-there, window-cut}
+use Rattle.format.proofs.Editions.{row-in}
 use Rattle.laws.proofs.Rows.{Firm, keeps, enough, all-read, covers}
 
 -- appended bytes
@@ -22,11 +24,11 @@ under-keeps : (f : Found) (s t : List ℕ) (at : ℕ) (vs : List ℕ) → Firm (
 under-keeps (found r) s t at vs h = keeps (r .body) s t at vs accepted accepted (λ ws n g. refl) h
 under-keeps none s t at vs h = refl
 
-pub window-keeps : (s t : List ℕ) → Firm (window s) → window (s ++ t) ≡ window s
+pub window-keeps : (rd : Reading) (s t : List ℕ) → Firm (window rd s) → window rd (s ++ t) ≡ window rd s
 unfolding window
-window-keeps s t h =
-    keeps header s t 0 [] (message s) (message (s ++ t))
-    (λ vs n f. under-keeps (find rows (getD vs 1 0)) s t n (drop 1 vs ++ (getD vs 1 0 ∷ [])) f)
+window-keeps rd s t h =
+    keeps header s t 0 [] (message rd s) (message rd (s ++ t))
+    (λ vs n f. under-keeps (find (rowsIn rd) (getD vs 1 0)) s t n (drop 1 vs ++ (getD vs 1 0 ∷ [])) f)
     h
 
 -- every row's size is that of its fields, counted from the tag on, and none is above 50: one test over the rows
@@ -38,7 +40,7 @@ abbrev pub Sized : Found → Type 0
 Sized (found r) = (r .size ≡ 11 + widths (r .body)) × (r .size ≤ 50)
 Sized none = Unit {0}
 
-find-sized : (rs : List Row) → T (sized rs) → (t : ℕ) → Sized (find rs t)
+pub find-sized : (rs : List Row) → T (sized rs) → (t : ℕ) → Sized (find rs t)
 find-sized [] q t = tt
 find-sized (r ∷ rs) q t = go (eqb (r .tag) t) (find-sized rs (b .1) t)
   where
@@ -53,6 +55,11 @@ find-sized (r ∷ rs) q t = go (eqb (r .tag) t) (find-sized rs (b .1) t)
 
 pub rows-sized : (t : ℕ) → Sized (find rows t)
 rows-sized t = find-sized rows tt t
+
+-- the row that a reading has for a tag, if it has one, is sized, and no larger than the tag's
+rows-sized-in : (rd : Reading) (t : ℕ) → Sized (find (rowsIn rd) t) × (sizeIn (find (rowsIn rd) t) ≤ sizeOf t)
+unfolding sizeOf
+rows-sized-in rd t = ⊎-elim (λ e. rw e (rows-sized t, omega arith)) (λ e. rw e (tt, omega arith)) (row-in rd t)
 
 -- values in front of an answer
 firm-pre : (acc : List ℕ) (a : Answer) → Firm a → Firm (pre acc a)
@@ -70,11 +77,12 @@ under-whole : (f : Found) (s vs : List ℕ) → Sized f → 2 + sizeIn f ≤ len
 under-whole (found r) s vs z l = enough (r .body) s 13 vs accepted (omega arith) (λ ws n e. let y : _≡_ {A = ℕ} 0 1 = cc in omega arith)
 under-whole none s vs z l = λ e. let y : _≡_ {A = ℕ} 0 1 = cc in omega arith
 
-pub window-whole : (s : List ℕ) → 13 ≤ length s → 2 + sizeOf (getD s 2 0) ≤ length s → Firm (window s)
-unfolding bodyOf sizeOf
-window-whole s h l e =
+pub window-whole : (rd : Reading) (s : List ℕ) → 13 ≤ length s → 2 + sizeOf (getD s 2 0) ≤ length s → Firm (window rd s)
+unfolding bodyIn
+window-whole rd s h l e =
     let t : ℕ = getD s 2 0 in
-    firm-pre _ (bodyOf t s) (under-whole (find rows t) s (t ∷ []) (rows-sized t) l) (sym (window-there s h) ∙ e)
+    let z = rows-sized-in rd t in
+    firm-pre _ (bodyIn rd t s) (under-whole (find (rowsIn rd) t) s (t ∷ []) (z .0) (omega (arith, z .1))) (sym (window-there rd s h) ∙ e)
 
 -- 52 bytes
 size-50 : (f : Found) → Sized f → sizeIn f ≤ 50
@@ -85,8 +93,8 @@ pub sizes-50 : (t : ℕ) → sizeOf t ≤ 50
 unfolding sizeOf
 sizes-50 t = size-50 (find rows t) (rows-sized t)
 
-pub window-enough : (s : List ℕ) → 52 ≤ length s → Firm (window s)
-window-enough s l = window-whole s (omega arith) (omega (arith, sizes-50 (getD s 2 0)))
+pub window-enough : (rd : Reading) (s : List ℕ) → 52 ≤ length s → Firm (window rd s)
+window-enough rd s l = window-whole rd s (omega arith) (omega (arith, sizes-50 (getD s 2 0)))
 
 -- what an accepted message consumed
 under-covers : (f : Found) (s us vs : List ℕ) (n : ℕ) → Sized f → 13 ≤ length s → under f s 13 us ≡ accepted vs n → (n ≡ 2 + sizeIn f) × (n ≤ length s) × (13 ≤ n)
@@ -97,41 +105,49 @@ under-covers (found r) s us vs n z l e =
     (omega arith, omega arith, omega arith)
 under-covers none s us vs n z l e = let y : _≡_ {A = ℕ} 0 1 = cc in absurd (omega arith)
 
+in-covers : (f g : Found) (s us vs : List ℕ) (n : ℕ) → (f ≡ g) ⊎ (f ≡ none) → Sized g → 13 ≤ length s → under f s 13 us ≡ accepted vs n
+    → (n ≡ 2 + sizeIn g) × (n ≤ length s) × (13 ≤ n)
+in-covers f g s us vs n (inl h) z l e = under-covers g s us vs n z l (ap (λ x. under x s 13 us) (sym h) ∙ e)
+in-covers f g s us vs n (inr h) z l e =
+    let q : refuses 1 2 ≡ accepted vs n = ap (λ x. under x s 13 us) (sym h) ∙ e in
+    let y : _≡_ {A = ℕ} 0 1 = cc in absurd (omega arith)
+
 -- consumed: 2 + size of the tag, which is the first value; these bytes lie within the window, and a header is among them
-pub window-covers : (s vs : List ℕ) (n : ℕ) → window s ≡ accepted vs n → (n ≡ 2 + sizeOf (getD vs 0 0)) × (n ≤ length s) × (13 ≤ n)
-unfolding bodyOf sizeOf
-window-covers s vs n e =
+pub window-covers : (rd : Reading) (s vs : List ℕ) (n : ℕ) → window rd s ≡ accepted vs n
+    → (n ≡ 2 + sizeOf (getD vs 0 0)) × (n ≤ length s) × (13 ≤ n)
+unfolding bodyIn sizeOf
+window-covers rd s vs n e =
     ⊎-elim
     (λ l.
     let t : ℕ = getD s 2 0 in
-    let a = pre-accepted _ (bodyOf t s) vs n (sym (window-there s l) ∙ e) in
+    let a = pre-accepted _ (bodyIn rd t s) vs n (sym (window-there rd s l) ∙ e) in
     let q : t ≡ getD vs 0 0 = ap (λ ws. getD ws 0 0) (a .2) in
-    rw q at (under-covers (find rows t) s (t ∷ []) (a .0) n (rows-sized t) l (a .1)))
-    (λ l. let z : _≡_ {A = ℕ} 0 1 = cc (window-cut s l) in absurd (omega arith))
+    rw q at (in-covers (find (rowsIn rd) t) (find rows t) s (t ∷ []) (a .0) n (row-in rd t) (rows-sized t) l (a .1)))
+    (λ l. let z : _≡_ {A = ℕ} 0 1 = cc (window-cut rd s l) in absurd (omega arith))
     (le-or-lt 13 (length s))
 
 -- these bytes are accepted by themselves
-window-tag : (s vs : List ℕ) (n : ℕ) → 13 ≤ length s → window s ≡ accepted vs n → getD s 2 0 ≡ getD vs 0 0
-window-tag s vs n l e = ap (λ ws. getD ws 0 0) (pre-accepted _ (bodyOf (getD s 2 0) s) vs n (sym (window-there s l) ∙ e) .2)
+window-tag : (rd : Reading) (s vs : List ℕ) (n : ℕ) → 13 ≤ length s → window rd s ≡ accepted vs n → getD s 2 0 ≡ getD vs 0 0
+window-tag rd s vs n l e = ap (λ ws. getD ws 0 0) (pre-accepted _ (bodyIn rd (getD s 2 0) s) vs n (sym (window-there rd s l) ∙ e) .2)
 
-pub window-first : (s vs : List ℕ) (n : ℕ) → window s ≡ accepted vs n → window (take n s) ≡ accepted vs n
-window-first s vs n e =
-    let c = window-covers s vs n e in
+pub window-first : (rd : Reading) (s vs : List ℕ) (n : ℕ) → window rd s ≡ accepted vs n → window rd (take n s) ≡ accepted vs n
+window-first rd s vs n e =
+    let c = window-covers rd s vs n e in
     let l : length (take n s) ≡ n = length-take-le n s (c .1) in
-    let t : getD (take n s) 2 0 ≡ getD vs 0 0 = getD-take n s 2 0 (omega (arith, c .2)) ∙ window-tag s vs n (omega (arith, c .1, c .2)) e in
-    let k = window-keeps (take n s) (drop n s) (window-whole (take n s) (omega (arith, l, c .2)) (rw t (omega (arith, l, c .0)))) in
-    sym k ∙ ap window (take-append-drop n s) ∙ e
+    let t : getD (take n s) 2 0 ≡ getD vs 0 0 = getD-take n s 2 0 (omega (arith, c .2)) ∙ window-tag rd s vs n (omega (arith, c .1, c .2)) e in
+    let k = window-keeps rd (take n s) (drop n s) (window-whole rd (take n s) (omega (arith, l, c .2)) (rw t (omega (arith, l, c .0)))) in
+    sym k ∙ ap (window rd) (take-append-drop n s) ∙ e
 
 -- each strict prefix of an accepted message is incomplete
-pub window-prefix : (s t vs : List ℕ) (n : ℕ) → window (s ++ t) ≡ accepted vs n → length s < n → window s ≡ incomplete
-window-prefix s t vs n e l = go (window s) refl
+pub window-prefix : (rd : Reading) (s t vs : List ℕ) (n : ℕ) → window rd (s ++ t) ≡ accepted vs n → length s < n → window rd s ≡ incomplete
+window-prefix rd s t vs n e l = go (window rd s) refl
   where
-    go : (a : Answer) → window s ≡ a → window s ≡ incomplete
+    go : (a : Answer) → window rd s ≡ a → window rd s ≡ incomplete
     go incomplete q = q
     go (accepted ws m) q =
-        let k : window (s ++ t) ≡ window s = window-keeps s t (λ x. let z : _≡_ {A = ℕ} 0 1 = cc in omega arith) in
-        let c : window s ≡ accepted vs n = cc in
-        absurd (omega (arith, window-covers s vs n c .1))
+        let k : window rd (s ++ t) ≡ window rd s = window-keeps rd s t (λ x. let z : _≡_ {A = ℕ} 0 1 = cc in omega arith) in
+        let c : window rd s ≡ accepted vs n = cc in
+        absurd (omega (arith, window-covers rd s vs n c .1))
     go (refuses m p) q =
-        let k : window (s ++ t) ≡ window s = window-keeps s t (λ x. let z : _≡_ {A = ℕ} 0 1 = cc in omega arith) in
+        let k : window rd (s ++ t) ≡ window rd s = window-keeps rd s t (λ x. let z : _≡_ {A = ℕ} 0 1 = cc in omega arith) in
         let z : _≡_ {A = ℕ} 0 1 = cc in absurd (omega arith)

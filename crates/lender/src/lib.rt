@@ -6,16 +6,17 @@ ghost use Rattle.stream.specs.Next.{nextOf};
 ghost use Rattle.stream.specs.Room.{roomOf, roomBuffer};
 ghost use Rattle.stream.specs.Told.{toldOf, failedOf};
 ghost use Rattle.play.specs.Play.{playOf};
+use format::Reading;
 use play::Played;
 use stream::Step;
 use stream::Stream;
 
 // Next, of a state that is lent.
-pub fn next(s: Stream, buf: &[u8]) -> Step
-    ensures { λ r. ⌜ r ≡ nextOf s (now (buf .entry)) ⌝ }
+pub fn next(s: Stream, buf: &[u8], reading: Reading) -> Step
+    ensures { λ r. ⌜ r ≡ nextOf reading s (now (buf .entry)) ⌝ }
 {
     let mut state = s;
-    let answer = lent::next(&mut state, buf);
+    let answer = lent::next(&mut state, buf, reading);
     Step { state, answer }
 }
 
@@ -48,12 +49,19 @@ pub fn told_failed(s: Stream) -> Step
 }
 
 // A slice plays the reader, of a state that is lent.
-pub fn play(s: Stream, buf: &mut [u8], src: &[u8], at: usize, width: usize) -> Played
-    ensures { λ r. ⌜ r ≡ playOf (now (src .entry)) width s (now (buf .entry)) at .played ⌝ }
-    ensures { λ _. ⌜ now (buf .exit) ≡ playOf (now (src .entry)) width s (now (buf .entry)) at .buffer ⌝ }
+pub fn play(
+    s: Stream,
+    buf: &mut [u8],
+    src: &[u8],
+    at: usize,
+    width: usize,
+    reading: Reading,
+) -> Played
+    ensures { λ r. ⌜ r ≡ playOf reading (now (src .entry)) width s (now (buf .entry)) at .played ⌝ }
+    ensures { λ _. ⌜ now (buf .exit) ≡ playOf reading (now (src .entry)) width s (now (buf .entry)) at .buffer ⌝ }
 {
     let mut state = s;
-    let reach = lent::play_on(&mut state, buf, src, at, width);
+    let reach = lent::play_on(&mut state, buf, src, at, width, reading);
     Played {
         state,
         at: reach.at,

@@ -7,6 +7,7 @@ use mathlib.Core.List.{List}
 use Prim.Native.Nat.{ℕ, _-_}
 use lib.Dec.{ltb, leb, eqb}
 use lib.ListN.{length}
+use Rattle.format.specs.declared.Reading.{Reading}
 use Rattle.reader.specs.Window.{windowOf}
 use Rattle.reader.specs.declared.Window.{Window}
 use Rattle.reader.specs.declared.Window.the-variants.{Message as Accepted, Incomplete, Refused}
@@ -41,14 +42,15 @@ next-by h (Accepted m n) = across (put-in (next-into h)) (eqb (h .messages) 1844
 next-by h Incomplete = refl
 next-by h (Refused n p) = across (put-in (next-into h)) (h .error) refl refl
 
-next-apart : (h : Stream) (b : List ℕ) → put-in (next-into h) (nextOf (next-parts h) b) ≡ nextOf h b
+next-apart : (rd : Reading) (h : Stream) (b : List ℕ) → put-in (next-into h) (nextOf rd (next-parts h) b) ≡ nextOf rd h b
 unfolding nextOf
-next-apart h b =
+next-apart rd h b =
     let f = put-in (next-into h) in
-    across f (eqb (length b) 8192) (across f (leb (h .start) (h .end)) (across f (leb (h .end) 8192) (next-by h (windowOf (windowAt h b))) refl) refl) refl
+    across f (eqb (length b) 8192) (across f (leb (h .start) (h .end)) (across f (leb (h .end) 8192) (next-by h (windowOf rd (windowAt h b))) refl) refl) refl
 
-pub next-back : (h : Stream) (b : List ℕ) (r : Step) → r ≡ nextOf (next-parts h) b → (r .answer ≡ nextOf h b .answer) × (next-into h r ≡ nextOf h b .state)
-next-back h b r e = stored (next-into h) e (next-apart h b)
+pub next-back : (rd : Reading) (h : Stream) (b : List ℕ) (r : Step) → r ≡ nextOf rd (next-parts h) b
+    → (r .answer ≡ nextOf rd h b .answer) × (next-into h r ≡ nextOf rd h b .state)
+next-back rd h b r e = stored (next-into h) e (next-apart rd h b)
 
 -- make room
 abbrev pub room-parts : Stream → Stream

@@ -29,6 +29,9 @@ use denote.Plain.{uint-makes, bool-makes}
 use denote.Laws.{Is, shows}
 use denote.Struct.Laws as LL
 use denote.Enum.Laws as EL
+use Rattle.format.specs.declared.Reading.{Reading}
+use Rattle.format.proofs.Reading as R
+use Rattle.format.proofs.Reading.Laws as R′
 use Rattle.stream.specs.declared.Stream.{Stream}
 use Rattle.stream.specs.declared.Step.{Step}
 use Rattle.stream.specs.declared.Answer.{Answer}
@@ -48,6 +51,13 @@ step-val r = LL.val S.the-type S′.the-laws r
 
 abbrev pub answer-val : Answer → Val
 answer-val a = EL.val N.the-type N′.the-laws a
+
+abbrev pub reading-val : Reading → Val
+reading-val rd = LL.val R.the-type R′.the-laws rd
+
+-- a Reading and its machine value
+abbrev pub Reads-as : Reading → Type 0
+Reads-as rd = Is R.the-row rd (reading-val rd ∷ [])
 
 -- The MIR types of a Step and of a Stream are structs of these names and of these parts: written out where a part is read, since the checker would write
 -- them out in full.
@@ -108,6 +118,9 @@ module _ {M : Type 1} (𝓤 : URA M) (H : Heap 𝓤) (A : Atoms 𝓤) (W : Given
 
   pub answer-typed : (a : Answer) {v : Val} → Is N.the-row a (v ∷ []) → Holds (hasTy N′.mir v) × WT v
   answer-typed a p = EL.lawful N.the-type N′.the-laws 𝓤 H A W tt .typed a _ p .0
+
+  pub reading-typed : (rd : Reading) {v : Val} → Is R.the-row rd (v ∷ []) → Holds (hasTy R′.mir v) × WT v
+  reading-typed rd p = LL.lawful R.the-type R′.the-laws 𝓤 H A W .typed rd _ p .0
 
 -- Entries of a context. A lent Stream, seen at the record h, with the lifetime's token.
 abbrev pub lent-at : {M : Type 1} (𝓤 : URA M) → Lft → Share → (b o : ℕ) → GName → Stream → List (Item 𝓤) → List (Item 𝓤)
@@ -223,9 +236,12 @@ module _ {M : Type 1} {𝓤 : URA M} {H : Heap 𝓤} {A : Atoms 𝓤} {K : Type 
   gone t = step (λ s. forget t 0 refl $ free1 t $ s)
 
   module _ {Γ : List (Item 𝓤)} {G : Goal 𝓤 H} {P : Fml} where
-    -- what a callee is passed of plain numbers and flags
+    -- what a callee is passed of plain numbers, flags and readings
     pub adds-num : K → (n : ℕ) → n < 2 ^ 64 → Stepping K W (‵ (fsep (usize .own n (vint w64 n ∷ [])) P) ∷ Γ) G (‵ P ∷ Γ) G
     adds-num t n f = step (λ s. owned t usize (Is usize) (uint-makes 𝓤 H A W w64) n _ (refl, f) $ fjoin t $ s)
 
     pub adds-flag : K → (e : Bool) → Stepping K W (‵ (fsep (bool .own e (vbool e ∷ [])) P) ∷ Γ) G (‵ P ∷ Γ) G
     adds-flag t e = step (λ s. owned t bool (Is bool) (bool-makes 𝓤 H A W) e _ refl $ fjoin t $ s)
+
+    pub adds-reading : K → (rd : Reading) → Reads-as rd → Stepping K W (‵ (fsep (R.the-row .own rd (reading-val rd ∷ [])) P) ∷ Γ) G (‵ P ∷ Γ) G
+    adds-reading t rd is = step (λ s. owned t R.the-row (Is R.the-row) (LL.makes R.the-type R′.the-plain 𝓤 H A) rd _ is $ fjoin t $ s)

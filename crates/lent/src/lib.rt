@@ -8,14 +8,22 @@ ghost use Rattle.stream.specs.Room.{roomOf, roomBuffer};
 ghost use Rattle.stream.specs.Told.{toldOf, failedOf};
 ghost use Rattle.play.specs.Play.{playOf};
 ghost use Rattle.lent.specs.Parts.{stateOf};
+use format::Reading;
 use play::Played;
 use stream::Answer;
 use stream::Step;
 use stream::Stream;
 
 // Next, on the parts that it looks at. Here and below, what a call does not look at is zero, or false, in the state that the by-value call is handed.
-fn next_on(start: usize, end: usize, messages: u64, error: bool, buf: &[u8]) -> Step
-    ensures { λ r. ⌜ r ≡ nextOf (stateOf start end 0 0 messages error) (now (buf .entry)) ⌝ }
+fn next_on(
+    start: usize,
+    end: usize,
+    messages: u64,
+    error: bool,
+    buf: &[u8],
+    reading: Reading,
+) -> Step
+    ensures { λ r. ⌜ r ≡ nextOf reading (stateOf start end 0 0 messages error) (now (buf .entry)) ⌝ }
 {
     let parts = Stream {
         start,
@@ -25,15 +33,15 @@ fn next_on(start: usize, end: usize, messages: u64, error: bool, buf: &[u8]) -> 
         messages,
         error,
     };
-    stream::next_of(parts, buf)
+    stream::next_of(parts, buf, reading)
 }
 
-// Next: the message that stands first in the window, or why there is none.
-pub fn next(s: &mut Stream, buf: &[u8]) -> Answer
-    ensures { λ r. ⌜ r ≡ nextOf (now (s .entry)) (now (buf .entry)) .answer ⌝ }
-    ensures { λ _. ⌜ now (s .exit) ≡ nextOf (now (s .entry)) (now (buf .entry)) .state ⌝ }
+// Next, by a reading: the message that stands first in the window, or why there is none.
+pub fn next(s: &mut Stream, buf: &[u8], reading: Reading) -> Answer
+    ensures { λ r. ⌜ r ≡ nextOf reading (now (s .entry)) (now (buf .entry)) .answer ⌝ }
+    ensures { λ _. ⌜ now (s .exit) ≡ nextOf reading (now (s .entry)) (now (buf .entry)) .state ⌝ }
 {
-    let step = next_on(s.start, s.end, s.messages, s.error, buf);
+    let step = next_on(s.start, s.end, s.messages, s.error, buf, reading);
     s.start = step.state.start;
     s.messages = step.state.messages;
     s.error = step.state.error;
@@ -139,9 +147,10 @@ fn played_on(
     src: &[u8],
     at: usize,
     width: usize,
+    reading: Reading,
 ) -> Played
-    ensures { λ r. ⌜ r ≡ playOf (now (src .entry)) width (stateOf start end bytes calls messages error) (now (buf .entry)) at .played ⌝ }
-    ensures { λ _. ⌜ now (buf .exit) ≡ playOf (now (src .entry)) width (stateOf start end bytes calls messages error) (now (buf .entry)) at .buffer ⌝ }
+    ensures { λ r. ⌜ r ≡ playOf reading (now (src .entry)) width (stateOf start end bytes calls messages error) (now (buf .entry)) at .played ⌝ }
+    ensures { λ _. ⌜ now (buf .exit) ≡ playOf reading (now (src .entry)) width (stateOf start end bytes calls messages error) (now (buf .entry)) at .buffer ⌝ }
 {
     let parts = Stream {
         start,
@@ -151,15 +160,22 @@ fn played_on(
         messages,
         error,
     };
-    play::play(parts, buf, src, at, width)
+    play::play(parts, buf, src, at, width, reading)
 }
 
-// A slice plays the reader, in pieces of a width: the position comes back with the answer.
-pub fn play_on(s: &mut Stream, buf: &mut [u8], src: &[u8], at: usize, width: usize) -> Reach
-    ensures { λ r. ⌜ r .at ≡ playOf (now (src .entry)) width (now (s .entry)) (now (buf .entry)) at .played .at ⌝ }
-    ensures { λ r. ⌜ r .answer ≡ playOf (now (src .entry)) width (now (s .entry)) (now (buf .entry)) at .played .answer ⌝ }
-    ensures { λ _. ⌜ now (s .exit) ≡ playOf (now (src .entry)) width (now (s .entry)) (now (buf .entry)) at .played .state ⌝ }
-    ensures { λ _. ⌜ now (buf .exit) ≡ playOf (now (src .entry)) width (now (s .entry)) (now (buf .entry)) at .buffer ⌝ }
+// A slice plays the reader, in pieces of a width and by a reading: the position comes back with the answer.
+pub fn play_on(
+    s: &mut Stream,
+    buf: &mut [u8],
+    src: &[u8],
+    at: usize,
+    width: usize,
+    reading: Reading,
+) -> Reach
+    ensures { λ r. ⌜ r .at ≡ playOf reading (now (src .entry)) width (now (s .entry)) (now (buf .entry)) at .played .at ⌝ }
+    ensures { λ r. ⌜ r .answer ≡ playOf reading (now (src .entry)) width (now (s .entry)) (now (buf .entry)) at .played .answer ⌝ }
+    ensures { λ _. ⌜ now (s .exit) ≡ playOf reading (now (src .entry)) width (now (s .entry)) (now (buf .entry)) at .played .state ⌝ }
+    ensures { λ _. ⌜ now (buf .exit) ≡ playOf reading (now (src .entry)) width (now (s .entry)) (now (buf .entry)) at .buffer ⌝ }
 {
     let p = played_on(
         s.start,
@@ -172,6 +188,7 @@ pub fn play_on(s: &mut Stream, buf: &mut [u8], src: &[u8], at: usize, width: usi
         src,
         at,
         width,
+        reading,
     );
     s.start = p.state.start;
     s.end = p.state.end;

@@ -9,6 +9,7 @@ use native.Mathlib.Omega.{arith}
 use native.Mathlib.Nat.{add-zero}
 use lib.ListN.{length, drop, getD, replicate, length-drop, drop-of-length-le}
 use lib.Seq.{sets, drop-cons}
+use Rattle.format.specs.declared.Reading.{Reading}
 use Rattle.format.proofs.Tests.{le-or-lt}
 use Rattle.reader.specs.declared.Window.{Window}
 use Rattle.walk.specs.declared.Walk.{Walk}
@@ -32,31 +33,31 @@ size-here b i size h z =
     let s : i + 1 ≡ suc i = omega arith in
     rw (drop-cons b i 0 (omega arith), drop-cons b (suc i) 0 (omega arith), ← s) z
 
-module _ (quiet : Bool) (win : List ℕ → Window) where
+module _ (quiet : Bool) (win : List ℕ → Window) (rd : Reading) where
   pub record Along (b : List ℕ) (from : ℕ) (out₀ : List ℕ) (at : ℕ) (w₀ : Walk) (out : List ℕ) (i o offset frames accepted : ℕ) : Type 0 where
-    pub going : Going quiet win b from out₀ at w₀ out (startOf offset frames accepted) i o
+    pub going : Going quiet win b from out₀ at w₀ out (startOf offset frames accepted rd) i o
     pub room : offset + (length b - i) < 2 ^ 64
     pub two : 2 * frames ≤ offset
     pub counted : accepted ≤ frames
 
   module _ (b : List ℕ) (from : ℕ) (out₀ : List ℕ) (at : ℕ) (w₀ : Walk) (out : List ℕ) (i o offset frames accepted : ℕ)
       (A : Along b from out₀ at w₀ out i o offset frames accepted) where
-    along-used : length b ≤ i → Called quiet win w₀ b from out₀ at out (record { state = startOf offset frames accepted; from = i; at = o; why = Used })
-    along-used h = going-used quiet win b from out₀ at w₀ out (startOf offset frames accepted) i o (A .going) h
+    along-used : length b ≤ i → Called quiet win w₀ b from out₀ at out (record { state = startOf offset frames accepted rd; from = i; at = o; why = Used })
+    along-used h = going-used quiet win b from out₀ at w₀ out (startOf offset frames accepted rd) i o (A .going) h
 
     pub along-full : i < length b → length out - o < longest
-        → Called quiet win w₀ b from out₀ at out (record { state = startOf offset frames accepted; from = i; at = o; why = Full })
-    along-full h r = going-full quiet win b from out₀ at w₀ out (startOf offset frames accepted) i o (A .going) h r
+        → Called quiet win w₀ b from out₀ at out (record { state = startOf offset frames accepted rd; from = i; at = o; why = Full })
+    along-full h r = going-full quiet win b from out₀ at w₀ out (startOf offset frames accepted rd) i o (A .going) h r
 
     fits : i < length b → offset + length (drop i b) < 2 ^ 64
     fits h = omega (arith, A .room, length-drop i b)
 
     along-cut : i < length b → longest ≤ length out - o → length (drop i b) < frameSize (put (replicate 52 0) 0 (drop i b))
-        → Called quiet win w₀ b from out₀ at out (record { state = pausedOf (startOf offset frames accepted) (drop i b); from = i + (length b - i); at = o; why = Used })
+        → Called quiet win w₀ b from out₀ at out (record { state = pausedOf (startOf offset frames accepted rd) (drop i b); from = i + (length b - i); at = o; why = Used })
     along-cut h r lt =
         rw (← length-drop i b)
-        (going-cut quiet win b from out₀ at w₀ out (startOf offset frames accepted) i o (A .going) h r
-        (start-cut win offset frames accepted (drop i b) (fits h) (A .two) (A .counted) lt))
+        (going-cut quiet win b from out₀ at w₀ out (startOf offset frames accepted rd) i o (A .going) h r
+        (start-cut win rd offset frames accepted (drop i b) (fits h) (A .two) (A .counted) lt))
 
     module _ (size : ℕ) (h : i < length b) (r : longest ≤ length out - o) (two : 2 ≤ length b - i) (z : size ≡ frameSize (drop i b)) where
       along-line : size ≤ length b - i → (out' : List ℕ) (o' : ℕ)
@@ -66,9 +67,9 @@ module _ (quiet : Bool) (win : List ℕ → Window) where
           let v = judgeOf win (drop i b) size in
           let d = length-drop i b in
           record {
-            going = going-frame quiet win b from out₀ at w₀ out (startOf offset frames accepted) i o (A .going)
-                (doneOf (startOf offset frames accepted) size size v) h r
-                (start-frame win offset frames accepted (drop i b) (fits h) (A .two) (A .counted) size (omega arith) z (omega arith))
+            going = going-frame quiet win b from out₀ at w₀ out (startOf offset frames accepted rd) i o (A .going)
+                (doneOf (startOf offset frames accepted rd) size size v) h r
+                (start-frame win rd offset frames accepted (drop i b) (fits h) (A .two) (A .counted) size (omega arith) z (omega arith))
                 size size v refl out' o' p;
             room = omega (arith, A .room);
             two = omega (arith, A .two, z);
@@ -77,7 +78,7 @@ module _ (quiet : Bool) (win : List ℕ → Window) where
 
     -- no byte of the block is left
     along-none : length b ≤ i
-        → Called quiet win w₀ b from out₀ at out (record { state = pausedOf (startOf offset frames accepted) (drop i b); from = i + (length b - i); at = o; why = Used })
+        → Called quiet win w₀ b from out₀ at out (record { state = pausedOf (startOf offset frames accepted rd) (drop i b); from = i + (length b - i); at = o; why = Used })
     unfolding put
     along-none l =
         let e : drop i b ≡ [] = drop-of-length-le b l in
@@ -86,7 +87,7 @@ module _ (quiet : Bool) (win : List ℕ → Window) where
 
     -- no further frame ends in the block: none begins there, too few bytes for a length, or fewer than it says
     pub along-end : i ≤ length b → Cutting b (length b) i → (i < length b → longest ≤ length out - o)
-        → Called quiet win w₀ b from out₀ at out (record { state = pausedOf (startOf offset frames accepted) (drop i b); from = i + (length b - i); at = o; why = Used })
+        → Called quiet win w₀ b from out₀ at out (record { state = pausedOf (startOf offset frames accepted rd) (drop i b); from = i + (length b - i); at = o; why = Used })
     unfolding put
     along-end w c space =
         ⊎-elim
@@ -101,7 +102,7 @@ module _ (quiet : Bool) (win : List ℕ → Window) where
         (λ short.
         ⊎-elim
         (λ two.
-        start-short win offset frames accepted (drop i b) (fits lt) (A .two) (A .counted) (omega (arith, two, length-drop i b)) (omega (arith, short, length-drop i b)))
+        start-short win rd offset frames accepted (drop i b) (fits lt) (A .two) (A .counted) (omega (arith, two, length-drop i b)) (omega (arith, short, length-drop i b)))
         (λ few. omega (arith, few, length-drop i b))
         (le-or-lt 2 (length b - i)))
         d))
@@ -110,9 +111,9 @@ module _ (quiet : Bool) (win : List ℕ → Window) where
 
   pub along-start : (b : List ℕ) (from : ℕ) (out : List ℕ) (at offset frames accepted : ℕ) → from ≤ length b → at ≤ length out
       → offset + (length b - from) < 2 ^ 64 → 2 * frames ≤ offset → accepted ≤ frames
-      → Along b from out at (startOf offset frames accepted) out from at offset frames accepted
+      → Along b from out at (startOf offset frames accepted rd) out from at offset frames accepted
   along-start b from out at offset frames accepted h g r t c =
-      record { going = going-start quiet win b from out at (startOf offset frames accepted) h g; room = r; two = t; counted = c }
+      record { going = going-start quiet win b from out at (startOf offset frames accepted rd) h g; room = r; two = t; counted = c }
 
   -- one frame behind others
   along-next : (b : List ℕ) (from : ℕ) (out₀ : List ℕ) (at : ℕ) (w₀ : Walk) (out : List ℕ) (i o offset frames accepted : ℕ) (es : List Entry) (j : ℕ)
@@ -153,8 +154,8 @@ module _ (quiet : Bool) (win : List ℕ → Window) where
   pub gone-along : (b : List ℕ) (from : ℕ) (out : List ℕ) (at offset frames accepted : ℕ) → from ≤ length b → at ≤ length out
       → offset + (length b - from) < 2 ^ 64 → 2 * frames ≤ offset → accepted ≤ frames → (after : List ℕ) (g : Gone)
       → Goes quiet win b (length b) from offset frames accepted out at after g
-      → Along b from out at (startOf offset frames accepted) after (g .at) (g .to) (g .offset) (g .frames) (g .accepted)
+      → Along b from out at (startOf offset frames accepted rd) after (g .at) (g .to) (g .offset) (g .frames) (g .accepted)
   gone-along b from out at offset frames accepted h k r t c after g G =
       rw (G .past, G .told, G .good)
-      (along-frames b from out at (startOf offset frames accepted) out from at offset frames accepted
+      (along-frames b from out at (startOf offset frames accepted rd) out from at offset frames accepted
       (along-start b from out at offset frames accepted h k r t c) h (G .run) after (g .to) (G .text))

@@ -36,7 +36,7 @@ module _ (quiet : Bool) (win : List ℕ → Window) (w : Walk) (b : List ℕ) (f
   pub inside-cut : w .seen + (length b - from) < size
       → Called quiet win w b from out at out
       (record {
-        state = record { offset = w .offset; seen = w .seen + (length b - from); held = held; frames = w .frames; accepted = w .accepted };
+        state = record { offset = w .offset; seen = w .seen + (length b - from); held = held; frames = w .frames; accepted = w .accepted; reading = w .reading };
         from = from + (length b - from);
         at = at;
         why = Used;
@@ -73,7 +73,7 @@ module _ (quiet : Bool) (win : List ℕ → Window) (w : Walk) (b : List ℕ) (f
   pub inside-line : size ≤ w .seen + (length b - from) → (out' : List ℕ) (o' count : ℕ)
       → Wrote (lineOf quiet (record { at = w .offset; size = size; what = judgeOf win held size })) out at out' o' → count ≡ countOf (judgeOf win held size)
       → (after : List ℕ) (r : Blocked)
-      → Called quiet win (startOf (w .offset + size) (w .frames + 1) (w .accepted + count)) b (from + (size - w .seen)) out' o' after r
+      → Called quiet win (startOf (w .offset + size) (w .frames + 1) (w .accepted + count) (w .reading)) b (from + (size - w .seen)) out' o' after r
       → Called quiet win w b from out at after r
   inside-line le out' o' count p c after r C =
       let d = length-drop from b in

@@ -7,6 +7,7 @@ use mathlib.Core.List.{List}
 use native.Mathlib.Omega.{arith}
 use borrow.Author.Tests.{le-ltb}
 use lib.ListN.{take, getD}
+use Rattle.format.specs.declared.Reading.{Reading}
 use Rattle.format.proofs.Bytes.{Bytes}
 use Rattle.records.specs.declared.Message.{Message}
 use Rattle.reader.specs.declared.Window.the-variants.{Message as Message'}
@@ -22,14 +23,14 @@ use Rattle.lines.specs.declared.Look.{Look}
 use Rattle.lines.specs.declared.Look.the-variants.{Tag, Bad as Ill}
 use Rattle.lines.specs.Whole.{lookOf}
 
-pub plain-look : (s rows : List ℕ) (size : ℕ) → Bytes s → Table rows → plainOf s rows ≡ size → 2 ≤ size → lookOf (judgeOf windowOf s size) ≡ Tag (getD s 2 0)
+pub plain-look : (rd : Reading) (s rows : List ℕ) (size : ℕ) → Bytes s → Table rows → plainOf s rows ≡ size → 2 ≤ size → lookOf (judgeOf (windowOf rd) s size) ≡ Tag (getD s 2 0)
 unfolding judgeOf
-plain-look s rows size b t e h =
+plain-look rd s rows size b t e h =
     let f = plain-accepts s rows size b t e (omega arith) .0 in
     let m : Message = f .message in
-    let c = covers s m size (f .accepted) in
+    let c = covers rd s m size (f .accepted rd) in
     let n : min size 52 ≡ size = omega (arith, c .0, sizes-50 (m .tag)) in
-    let w : windowOf (take (min size 52) s) ≡ Message' m size = rw n (first s m size (f .accepted)) in
+    let w : windowOf rd (take (min size 52) s) ≡ Message' m size = rw n (first rd s m size (f .accepted rd)) in
     let v : verdictOf (Message' m size) size ≡ Accepted m = ap (λ x. cond x (Bad 21 0) (Accepted m)) (le-ltb size size (omega arith)) in
     ap (λ x. lookOf (verdictOf x size)) w ∙ ap lookOf v ∙ ap Tag (f .tag)
 

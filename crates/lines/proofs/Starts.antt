@@ -8,6 +8,7 @@ use native.Mathlib.Omega.{arith}
 use borrow.Author.Tests.{lt-ltb, eqb-true}
 use lib.Dec.{eqb}
 use lib.ListN.{length, replicate}
+use Rattle.format.specs.declared.Reading.{Reading}
 use Rattle.format.proofs.Tests.{and-split}
 use Rattle.reader.specs.declared.Window.{Window}
 use Rattle.walk.specs.declared.Walk.{Walk}
@@ -36,12 +37,12 @@ zeros-all (x ∷ h) e =
     ap (λ (y : ℕ). y ∷ h) (eqb-true x 0 (p .0)) ∙ ap (λ (l : List ℕ). 0 ∷ l) (zeros-all h (p .1))
 
 -- a sound state that has seen nothing is at a frame's first byte
-pub start-of : (w : Walk) (n : ℕ) → length (w .held) ≡ 52 → readyOf w n ≡ true → w .seen ≡ 0 → startOf (w .offset) (w .frames) (w .accepted) ≡ w
+pub start-of : (w : Walk) (n : ℕ) → length (w .held) ≡ 52 → readyOf w n ≡ true → w .seen ≡ 0 → startOf (w .offset) (w .frames) (w .accepted) (w .reading) ≡ w
 start-of w n l e s =
     let r = ready-all w n e in
     let z : zeroFrom (w .held) (w .seen) ≡ true = sym (sound-rest w (r .started) (r .two) (r .counted)) ∙ ready-sound w n e in
     let h : w .held ≡ replicate 52 0 = zeros-all (w .held) (rw s at z) ∙ ap (λ (k : ℕ). replicate k 0) l in
-    λ i. record { offset = w .offset; seen = sym s i; held = sym h i; frames = w .frames; accepted = w .accepted }
+    λ i. record { offset = w .offset; seen = sym s i; held = sym h i; frames = w .frames; accepted = w .accepted; reading = w .reading }
 
 module _ (win : List ℕ → Window) where
   -- where it was not asked well, the first step refuses
@@ -61,9 +62,9 @@ module _ (win : List ℕ → Window) where
 
   -- ---- from a frame's first byte
 
-  module _ (offset frames accepted : ℕ) (p : List ℕ) (r : offset + length p < 2 ^ 64) (t : 2 * frames ≤ offset) (c : accepted ≤ frames) where
+  module _ (rd : Reading) (offset frames accepted : ℕ) (p : List ℕ) (r : offset + length p < 2 ^ 64) (t : 2 * frames ≤ offset) (c : accepted ≤ frames) where
     start : Walk
-    start = startOf offset frames accepted
+    start = startOf offset frames accepted rd
 
     start-moves : stepOf win start p ≡ movedOf win start p
     unfolding start zeros
@@ -77,7 +78,7 @@ module _ (win : List ℕ → Window) where
     judge-put size le = rw (put-front (min size 52) (replicate 52 0) p (omega arith) (omega arith))
 
     pub start-frame : (size : ℕ) → 2 ≤ length p → size ≡ frameSize p → size ≤ length p
-        → stepOf win (startOf offset frames accepted) p ≡ doneOf (startOf offset frames accepted) size size (judgeOf win p size)
+        → stepOf win (startOf offset frames accepted rd) p ≡ doneOf (startOf offset frames accepted rd) size size (judgeOf win p size)
     unfolding start
     start-frame size h z le =
         let s : size - 0 ≡ size = omega arith in
@@ -87,7 +88,7 @@ module _ (win : List ℕ → Window) where
 
     -- the bytes end no frame: too few for a length, or fewer than it says
     pub start-cut : length p < frameSize (put (replicate 52 0) 0 p)
-        → stepOf win (startOf offset frames accepted) p ≡ moreOf (startOf offset frames accepted) (put (replicate 52 0) 0 p) (length p)
+        → stepOf win (startOf offset frames accepted rd) p ≡ moreOf (startOf offset frames accepted rd) (put (replicate 52 0) 0 p) (length p)
     unfolding start
     start-cut lt = start-moves ∙ sym (moved-more win start p (put (replicate 52 0) 0 p) (frameSize (put (replicate 52 0) 0 p)) refl refl (omega arith))
 

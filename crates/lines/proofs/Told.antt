@@ -10,6 +10,7 @@ use denote.Enum.Declared.{tagOf, declared}
 use borrow.Author.Tests.{ltb-false}
 use lib.Dec.{ltb}
 use lib.ListN.{length, take, drop, length-take, length-append}
+use Rattle.format.specs.declared.Reading.{Reading}
 use Rattle.records.specs.declared.Message.{Message}
 use Rattle.reader.specs.declared.Window.{Window}
 use Rattle.reader.specs.declared.Window.the-variants.{Message as Message', Incomplete, Refused as Refused'}
@@ -111,11 +112,11 @@ module _ (quiet : Bool) (win : List ℕ → Window) (s : List ℕ) (have from of
           }
 
 -- an accepted frame's size has two digits
-pub accepted-size : (s : List ℕ) (size : ℕ) (m : Message) → judgeOf windowOf s size ≡ Accepted m → (13 ≤ size) × (size ≤ 52)
+pub accepted-size : (rd : Reading) (s : List ℕ) (size : ℕ) (m : Message) → judgeOf (windowOf rd) s size ≡ Accepted m → (13 ≤ size) × (size ≤ 52)
 unfolding judgeOf
-accepted-size s size m = go (windowOf (take (min size 52) s)) refl
+accepted-size rd s size m = go (windowOf rd (take (min size 52) s)) refl
   where
-    go : (w : Window) → windowOf (take (min size 52) s) ≡ w → verdictOf w size ≡ Accepted m → (13 ≤ size) × (size ≤ 52)
+    go : (w : Window) → windowOf rd (take (min size 52) s) ≡ w → verdictOf w size ≡ Accepted m → (13 ≤ size) × (size ≤ 52)
     go Incomplete e v = absurd (omega (arith, ap countOf v))
     go (Refused' number place) e v = absurd (omega (arith, ap countOf v))
     go (Message' n used) e v = by (ltb used size) refl v
@@ -123,7 +124,7 @@ accepted-size s size m = go (windowOf (take (min size 52) s)) refl
         by : (b : Bool) → ltb used size ≡ b → cond b (Bad 21 0) (Accepted n) ≡ Accepted m → (13 ≤ size) × (size ≤ 52)
         by true l x = absurd (omega (arith, ap countOf x))
         by false l x =
-            let q = covers (take (min size 52) s) n used e in
+            let q = covers rd (take (min size 52) s) n used e in
             let long = length-take (min size 52) s in
             (omega (arith, q .2, q .1, long, ltb-false used size l), omega (arith, q .1, long, ltb-false used size l))
 

@@ -7,6 +7,7 @@ use mathlib.Core.Bool.{Bool, true, false, cond}
 use lib.ListN.{length, drop, replicate}
 use lib.Seq.{sets}
 use lib.Dec.{ltb}
+use Rattle.format.specs.declared.Reading.{Reading}
 use Rattle.reader.specs.declared.Window.{Window}
 use Rattle.walk.specs.declared.Walk.{Walk}
 use Rattle.walk.specs.declared.Answer.{Answer}
@@ -40,8 +41,9 @@ stopsOf Full = false
 stopsOf Stopped = true
 
 -- a state at a frame's first byte; and one past a piece that ends no frame
-abbrev pub startOf : ℕ → ℕ → ℕ → Walk
-startOf offset frames accepted = record { offset = offset; seen = 0; held = replicate 52 0; frames = frames; accepted = accepted }
+abbrev pub startOf : ℕ → ℕ → ℕ → Reading → Walk
+startOf offset frames accepted rd =
+    record { offset = offset; seen = 0; held = replicate 52 0; frames = frames; accepted = accepted; reading = rd }
 
 abbrev pub pausedOf : Walk → List ℕ → Walk
 pausedOf w p = moreOf w (put (w .held) (w .seen) p) (length p) .state

@@ -14,6 +14,7 @@ ghost use Rattle.lines.specs.Whole.{pairs, isFull, lookOf, haltedOf, Ask
 
 mod pairs;
 
+use format::Reading;
 use pairs::PAIRS;
 use walk::Verdict;
 use walk::Walk;
@@ -187,14 +188,14 @@ fn look_of(what: Verdict) -> Look
 }
 
 // The frame rule's answer, from a frame's size and its first bytes. A plain message is accepted without a jump by its tag.
-fn looked(s: &[u8], size: usize, rows: &[u64; 256]) -> Look
+fn looked(s: &[u8], size: usize, rows: &[u64; 256], reading: Reading) -> Look
     requires { ⌜ (2 ≤ size) × Table (now rows) ⌝ }
-    ensures { λ r. ⌜ r ≡ lookOf (judgeOf windowOf (now (s .entry)) size) ⌝ }
+    ensures { λ r. ⌜ r ≡ lookOf (judgeOf (windowOf reading) (now (s .entry)) size) ⌝ }
 {
     if plain::plain(s, rows) == size {
         return Look::Tag(s[2]);
     }
-    look_of(walk::judge(s, size))
+    look_of(walk::judge(s, size, reading))
 }
 
 // The lines of accepted frames stop at a frame that is none.
@@ -229,9 +230,10 @@ fn told_accepted(
     out: &mut [u8],
     to: usize,
     quiet: bool,
+    reading: Reading,
 ) -> Halted
     requires { ⌜ Asked (now s) have from offset (now table) (length (now out)) to × Table (now rows) ⌝ }
-    ensures { λ r. ⌜ Halts quiet windowOf (now (s .entry)) have from offset (now (out .entry)) to (now (out .exit)) r ⌝ }
+    ensures { λ r. ⌜ Halts quiet (windowOf reading) (now (s .entry)) have from offset (now (out .entry)) to (now (out .exit)) r ⌝ }
 {
     let mut i = from;
     let mut o = to;
@@ -271,7 +273,7 @@ fn told_accepted(
                 why: Halt::Cut,
             };
         }
-        let what = looked(&s[i..], size, rows);
+        let what = looked(&s[i..], size, rows, reading);
         let Look::Tag(tag) = what else {
             return stopped_at(i, o, count, what, size);
         };
@@ -316,9 +318,10 @@ fn told_frames(
     frames: u64,
     accepted: u64,
     quiet: bool,
+    reading: Reading,
 ) -> Gone
     requires { ⌜ Asked (now s) have from offset (now table) (length (now out)) to × Table (now rows) × (2 * frames ≤ offset) × (accepted ≤ frames) ⌝ }
-    ensures { λ r. ⌜ Goes quiet windowOf (now (s .entry)) have from offset frames accepted (now (out .entry)) to (now (out .exit)) r ⌝ }
+    ensures { λ r. ⌜ Goes quiet (windowOf reading) (now (s .entry)) have from offset frames accepted (now (out .entry)) to (now (out .exit)) r ⌝ }
 {
     let mut i = from;
     let mut o = to;
@@ -326,7 +329,7 @@ fn told_frames(
     let mut fr = frames;
     let mut acc = accepted;
     loop {
-        let h = told_accepted(s, have, i, off, rows, table, out, o, quiet);
+        let h = told_accepted(s, have, i, off, rows, table, out, o, quiet, reading);
         let j = h.at;
         let k = h.to;
         let past = off + (j - i) as u64;
@@ -367,8 +370,8 @@ pub struct Blocked {
 }
 
 // The state past the last bytes of a block, which end no frame; at a frame's first byte, if there are none.
-fn cut(offset: u64, frames: u64, accepted: u64, rest: &[u8]) -> Walk
-    ensures { λ r. ⌜ r ≡ pausedOf (startOf offset frames accepted) (now (rest .entry)) ⌝ }
+fn cut(offset: u64, frames: u64, accepted: u64, rest: &[u8], reading: Reading) -> Walk
+    ensures { λ r. ⌜ r ≡ pausedOf (startOf offset frames accepted reading) (now (rest .entry)) ⌝ }
 {
     let held = walk::put_in([0u8; 52], 0, rest);
     Walk {
@@ -377,12 +380,13 @@ fn cut(offset: u64, frames: u64, accepted: u64, rest: &[u8]) -> Walk
         held,
         frames,
         accepted,
+        reading,
     }
 }
 
 // The state between two frames.
-fn start(offset: u64, frames: u64, accepted: u64) -> Walk
-    ensures { λ r. ⌜ r ≡ startOf offset frames accepted ⌝ }
+fn start(offset: u64, frames: u64, accepted: u64, reading: Reading) -> Walk
+    ensures { λ r. ⌜ r ≡ startOf offset frames accepted reading ⌝ }
 {
     Walk {
         offset,
@@ -390,6 +394,7 @@ fn start(offset: u64, frames: u64, accepted: u64) -> Walk
         held: [0u8; 52],
         frames,
         accepted,
+        reading,
     }
 }
 
@@ -406,10 +411,11 @@ fn from_start(
     frames: u64,
     accepted: u64,
     quiet: bool,
+    reading: Reading,
 ) -> Blocked
     requires { ⌜ (from ≤ length (now block)) × (at ≤ length (now out)) × (72 ≤ length (now out)) × (offset + (length (now block) - from) < 2 ^ 64) × (2 * frames ≤ offset) × (accepted ≤ frames)
         × (now table ≡ pairs) × Table (now rows) ⌝ }
-    ensures { λ r. ⌜ Called quiet windowOf (startOf offset frames accepted) (now (block .entry)) from (now (out .entry)) at (now (out .exit)) r ⌝ }
+    ensures { λ r. ⌜ Called quiet (windowOf reading) (startOf offset frames accepted reading) (now (block .entry)) from (now (out .entry)) at (now (out .exit)) r ⌝ }
 {
     let g = told_frames(
         block,
@@ -423,12 +429,13 @@ fn from_start(
         frames,
         accepted,
         quiet,
+        reading,
     );
     let i = g.at;
     let to = g.to;
     if g.full {
         return Blocked {
-            state: start(g.offset, g.frames, g.accepted),
+            state: start(g.offset, g.frames, g.accepted, reading),
             from: i,
             at: to,
             why: Why::Full,
@@ -436,7 +443,7 @@ fn from_start(
     }
     let left = block.len() - i;
     Blocked {
-        state: cut(g.offset, g.frames, g.accepted, &block[i..]),
+        state: cut(g.offset, g.frames, g.accepted, &block[i..], reading),
         from: i + left,
         at: to,
         why: Why::Used,
@@ -455,8 +462,9 @@ fn from_inside(
     quiet: bool,
 ) -> Blocked
     requires { ⌜ (from < length (now block)) × (at + 72 ≤ length (now out)) × (readyOf w (length (now block) - from) ≡ true) × (now table ≡ pairs) × Table (now rows) ⌝ }
-    ensures { λ r. ⌜ Called quiet windowOf w (now (block .entry)) from (now (out .entry)) at (now (out .exit)) r ⌝ }
+    ensures { λ r. ⌜ Called quiet (windowOf (w .reading)) w (now (block .entry)) from (now (out .entry)) at (now (out .exit)) r ⌝ }
 {
+    let reading = w.reading;
     let seen = w.seen;
     let old = w.held;
     let held = walk::put_in(old, seen, &block[from..]);
@@ -474,6 +482,7 @@ fn from_inside(
                 held,
                 frames,
                 accepted,
+                reading,
             },
             from: from + left,
             at,
@@ -492,6 +501,7 @@ fn from_inside(
         frames,
         accepted,
         quiet,
+        reading,
     );
     let used = size - seen;
     from_start(
@@ -505,6 +515,7 @@ fn from_inside(
         g.frames,
         g.accepted,
         quiet,
+        reading,
     )
 }
 
@@ -518,7 +529,7 @@ pub fn walk_block(
     at: usize,
     quiet: bool,
 ) -> Blocked
-    ensures { λ r. ⌜ Called quiet windowOf w (now (block .entry)) from (now (out .entry)) at (now (out .exit)) r ⌝ }
+    ensures { λ r. ⌜ Called quiet (windowOf (w .reading)) w (now (block .entry)) from (now (out .entry)) at (now (out .exit)) r ⌝ }
 {
     if block.len() <= from {
         return Blocked {
@@ -556,6 +567,7 @@ pub fn walk_block(
     let table = PAIRS;
     let rows = plain::rows();
     if w.seen == 0 {
+        let reading = w.reading;
         return from_start(
             block,
             from,
@@ -567,6 +579,7 @@ pub fn walk_block(
             w.frames,
             w.accepted,
             quiet,
+            reading,
         );
     }
     from_inside(w, block, from, &rows, &table, out, at, quiet)

@@ -1,21 +1,24 @@
--- The values of a body that was read are those of the message made of them: what each kind of field gives, then row by row.
+-- The values of a body that was read, by any reading, are those of the message made of them: what each kind of field gives, then row by row.
 -- Assumes nothing.
 use Prim.Native.Nat.{ℕ}
-use mathlib.Core.Path.{_≡_, refl, subst}
+use mathlib.Core.Path.{_≡_, refl, sym, ap, subst, _∙_}
 use mathlib.Core.Bool.{Bool, true, false, cond}
 use mathlib.Core.List.{List, [], _∷_}
+use mathlib.Core.Logic.{⊎-elim}
 use native.Mathlib.Omega.{arith}
 use borrow.Author.Tests.{eqb-true}
 use lib.Dec.{eqb}
-use Rattle.format.specs.Ascii.{'A', 'B', 'C', 'D', 'E', 'F', 'H', 'I', 'J', 'K', 'L', 'N', 'P', 'Q', 'R', 'S', 'U', 'V', 'W', 'X', 'Y'}
+use Rattle.format.specs.Ascii.{'A', 'B', 'C', 'D', 'E', 'F', 'H', 'I', 'J', 'K', 'L', 'N', 'O', 'P', 'Q', 'R', 'S', 'U', 'V', 'W', 'X', 'Y', 'h'}
 use Rattle.format.specs.Codes.{subtypes}
 use Rattle.format.specs.Layout.{Kind, num, time, text, code, subtype, width, be, part, member, fine, judge, accepted}
-use Rattle.format.specs.Rows.{Row, rows, Found, found, none, find, fieldsIn, under, bodyOf}
+use Rattle.format.specs.Rows.{Row, rows, rowsIn, Found, found, none, find, fieldsIn, under, bodyIn}
+use Rattle.format.specs.declared.Reading.{Reading}
 use Rattle.format.proofs.Fields.{field-fine, code-fine}
 use Rattle.format.proofs.Runs.{Reads, end, _⨾_}
 use Rattle.laws.proofs.Rows.{all-read}
+use Rattle.format.proofs.Editions.{row-in}
 use Rattle.records.specs.Values.{values, bodyFrom}
-use Rattle.codes.proofs.Codes.{event-coded, category-coded, status-coded, class-coded, tier-coded, makerMode-coded, participantState-coded, action-coded, tradingState-coded, side-coded, direction-coded, cross-coded, imbalanceCross-coded, qualifier-coded, level-coded, interest-coded, flag-coded, etpFlag-coded, yesNo-coded, authenticity-coded, subtype-coded}
+use Rattle.codes.proofs.Codes.{event-coded, category-coded, status-coded, class-coded, tier-coded, makerMode-coded, participantState-coded, action-coded, tradingState-coded, side-coded, direction-coded, cross-coded, imbalanceCross-coded, qualifier-coded, level-coded, market-coded, halt-coded, interest-coded, flag-coded, etpFlag-coded, yesNo-coded, authenticity-coded, subtype-coded}
 
 -- what a field of a kind gives
 data Gives : Kind → ℕ → Type 0 where
@@ -133,6 +136,14 @@ row-Y : SameValues 'Y'
 unfolding bodyFrom
 row-Y _ (a-text & a-code a & none-left) = simp (action-coded .back _ a)
 
+row-h : SameValues 'h'
+unfolding bodyFrom
+row-h _ (a-text & a-code m & a-code a & none-left) = simp (market-coded .back _ m, halt-coded .back _ a)
+
+row-O : SameValues 'O'
+unfolding bodyFrom
+row-O _ (a-text & a-code y & a-number & a-number & a-number & a-number & a-number & a-number & none-left) = simp (yesNo-coded .back _ y)
+
 data Each (P : ℕ → Type 0) : List Row → Type 0 where
   no-rows : Each P []
   _and_ : {r : Row} {rs : List Row} → P (r .tag) → Each P rs → Each P (r ∷ rs)
@@ -161,6 +172,8 @@ every-row =
     and row-W
     and row-X
     and row-Y
+    and row-h
+    and row-O
     and no-rows
 
 -- the row that was found is one of them
@@ -181,6 +194,13 @@ under-again (found r) s t ws n h e =
     rw q at (h r refl (a .0) (row-gives (a .1)))
 under-again none s t ws n h e = let z : _≡_ {A = ℕ} 0 1 = cc in absurd (omega arith)
 
-pub body-again : (t : ℕ) (s ws : List ℕ) (n : ℕ) → bodyOf t s ≡ accepted ws n → values (bodyFrom ws) ≡ ws
-unfolding bodyOf
-body-again t s ws n e = under-again (find rows t) s t ws n (λ r q vs g. one-row SameValues rows every-row t {r = r} q vs g) e
+pub body-again : (rd : Reading) (t : ℕ) (s ws : List ℕ) (n : ℕ) → bodyIn rd t s ≡ accepted ws n → values (bodyFrom ws) ≡ ws
+unfolding bodyIn
+body-again rd t s ws n e =
+    ⊎-elim
+    (λ q. under-again (find rows t) s t ws n (λ r p vs g. one-row SameValues rows every-row t {r = r} p vs g) (row-is q))
+    (λ q. let d = row-is q in let z : _≡_ {A = ℕ} 0 1 = cc in absurd (omega arith))
+    (row-in rd t)
+  where
+    row-is : {f : Found} → find (rowsIn rd) t ≡ f → under f s 13 (t ∷ []) ≡ accepted ws n
+    row-is q = sym (ap (λ (f : Found). under f s 13 (t ∷ [])) q) ∙ e

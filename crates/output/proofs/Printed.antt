@@ -8,14 +8,15 @@ use mathlib.Core.List.{List, [], _∷_, _++_, append-nil}
 use native.Mathlib.Omega.{arith}
 use native.Mathlib.Nat.{zero-add}
 use lib.ListN.{length, take, drop, length-append, drop-of-length-le}
+use Rattle.format.specs.declared.Reading.{Reading}
 use Rattle.reader.specs.declared.Window.{Window}
 use Rattle.reader.specs.Window.{windowOf}
 use Rattle.walk.specs.declared.Walk.{Walk}
 use Rattle.walk.specs.Walk.{freshOf, Lawful}
-use Rattle.walk.specs.Frames.{Entry, allUsed, Ran, run, joined, accepts, walkOf, ranOf, pad}
+use Rattle.walk.specs.Frames.{Entry, allUsed, Ran, runBy, run, joined, accepts, walkOf, ranOf}
 use Rattle.demand.proofs.Steps.{Holds}
 use Rattle.demand.proofs.Cut.{cut}
-use Rattle.demand.proofs.Demand3.{lawful}
+use Rattle.demand.proofs.Demand3.{fresh-holds, lawful}
 use Rattle.lines.specs.Lines.{linesOf, closingOf, textOf}
 use Rattle.lines.specs.Blocks.{Block, callOf, Called}
 use Rattle.lines.specs.declared.Blocked.{Blocked}
@@ -55,10 +56,6 @@ module _ (win : List ℕ → Window) (laws : Lawful win) where
             rw s (A .runs (R .steps + j) ps ∙ ap (tells (r .entries)) (rw (t, x, y) at (R .runs j)));
       }
 
-  fresh-holds : Holds freshOf []
-  unfolding pad
-  fresh-holds = record { seen = refl; held = refl; short = omega arith; two = omega arith; counted = omega arith }
-
   module _ (quiet : Bool) where
     -- what a call wrote is the lines of the frames that it tells of
     pub call-text : (w : Walk) (b : List ℕ) (i : ℕ) (out after : List ℕ) (r : Blocked) → Called quiet win w b i out 0 after r
@@ -74,7 +71,7 @@ module _ (win : List ℕ → Window) (laws : Lawful win) where
 
     pub calls-run : {w w' : Walk} {ps ts : List (List ℕ)} → Calls quiet win w ps ts w' → (q : List ℕ) → Holds w q → w .offset + length q + length (joined ps) < 2 ^ 64
         → Told w ps ts w'
-    unfolding run joined linesOf
+    unfolding runBy joined linesOf
     calls-run over q H t = record { frames = []; text = refl; run = record { steps = 0; runs = λ j. rw (zero-add (suc j)) } }
     calls-run {w} (next {w' = w'} {ps = ps} {ts = ts} b i h c) q H t =
         let d : drop i b ≡ [] = drop-of-length-le b {i = i} h in
@@ -98,29 +95,29 @@ module _ (win : List ℕ → Window) (laws : Lawful win) where
         }
 
     -- the whole output of a program over an input, cut and flushed anywhere: the texts of its calls, quiet or not, and then the closing lines of its last state
-    pub printed : {w : Walk} {ps ts : List (List ℕ)} → Calls quiet win freshOf ps ts w → length (joined ps) < 2 ^ 64
+    pub printed : {rd : Reading} {w : Walk} {ps ts : List (List ℕ)} → Calls quiet win (freshOf rd) ps ts w → length (joined ps) < 2 ^ 64
         → joined ts ++ closingOf (w .offset) (w .seen) (w .frames) (w .accepted) ≡ textOf quiet (walkOf win (joined ps))
     unfolding textOf
-    printed {w} {ps} {ts} c h =
-        let T = calls-run c [] fresh-holds (omega arith) in
+    printed {rd} {w} {ps} {ts} c h =
+        let T = calls-run c [] (fresh-holds win laws rd) (omega arith) in
         let r = walkOf win (joined ps) in
-        let e : all (T .frames) w ≡ ranOf freshOf (joined ps) r =
+        let e : all (T .frames) w ≡ ranOf (freshOf rd) (joined ps) r =
         sym (T .run .runs (length ps + length (joined ps)))
-        ∙ cut win laws (joined ps) h (T .run .steps + suc (length ps + length (joined ps))) (length (joined ps)) freshOf [] ps fresh-holds refl (omega arith) (omega arith) (omega arith) in
+        ∙ cut win laws (joined ps) h (T .run .steps + suc (length ps + length (joined ps))) (length (joined ps)) (freshOf rd) [] ps (fresh-holds win laws rd) refl (omega arith) (omega arith) (omega arith) in
         ap (λ (x : List ℕ). x ++ closingOf (w .offset) (w .seen) (w .frames) (w .accepted)) (T .text)
         ∙ ap (λ (x : Ran). linesOf quiet (x .entries) ++ closingOf (x .state .offset) (x .state .seen) (x .state .frames) (x .state .accepted)) e
         ∙ rw (zero-add (length (r .entries)), zero-add (accepts (r .entries)))
 
--- the same at the reader's own window answer, with the closing lines as the program writes them
-pub frames-printed : (quiet : Bool) (w : Walk) (ps ts : List (List ℕ)) (out after : List ℕ) (n : ℕ) → Calls quiet windowOf freshOf ps ts w → length (joined ps) < 2 ^ 64
+-- the same at the reader's own window answer by any reading, with the closing lines as the program writes them
+pub frames-printed : (rd : Reading) (quiet : Bool) (w : Walk) (ps ts : List (List ℕ)) (out after : List ℕ) (n : ℕ) → Calls quiet (windowOf rd) (freshOf rd) ps ts w → length (joined ps) < 2 ^ 64
     → Wrote (closingOf (w .offset) (w .seen) (w .frames) (w .accepted)) out 0 after n
-    → joined ts ++ take n after ≡ textOf quiet (walkOf windowOf (joined ps))
-frames-printed quiet w ps ts out after n c h p = ap (λ (x : List ℕ). joined ts ++ x) (wrote-front p) ∙ printed windowOf lawful quiet c h
+    → joined ts ++ take n after ≡ textOf quiet (walkOf (windowOf rd) (joined ps))
+frames-printed rd quiet w ps ts out after n c h p = ap (λ (x : List ℕ). joined ts ++ x) (wrote-front p) ∙ printed (windowOf rd) (lawful rd) quiet c h
 
 -- of whole blocks, as the program hands them on: all that it writes is the text of the walk of all that it read, where quiet without the lines of accepted
 -- frames
-pub output-is-text : (quiet : Bool) (ps : List (List ℕ)) (w : Walk) (O : Over quiet windowOf ps freshOf w) (out after : List ℕ) (n : ℕ) → length (joined ps) < 2 ^ 64
+pub output-is-text : (rd : Reading) (quiet : Bool) (ps : List (List ℕ)) (w : Walk) (O : Over quiet (windowOf rd) ps (freshOf rd) w) (out after : List ℕ) (n : ℕ) → length (joined ps) < 2 ^ 64
     → Wrote (closingOf (w .offset) (w .seen) (w .frames) (w .accepted)) out 0 after n
-    → joined (O .texts) ++ take n after ≡ textOf quiet (walkOf windowOf (joined ps))
-output-is-text quiet ps w O out after n h p =
-    rw (append-nil ps, append-nil (O .texts)) at (frames-printed quiet w (ps ++ []) (O .texts ++ []) out after n (O .rest over) (rw (append-nil ps) h) p)
+    → joined (O .texts) ++ take n after ≡ textOf quiet (walkOf (windowOf rd) (joined ps))
+output-is-text rd quiet ps w O out after n h p =
+    rw (append-nil ps, append-nil (O .texts)) at (frames-printed rd quiet w (ps ++ []) (O .texts ++ []) out after n (O .rest over) (rw (append-nil ps) h) p)

@@ -13,7 +13,7 @@ use Rattle.format.proofs.Tests.{le-or-lt}
 use Rattle.reader.specs.declared.Window.{Window}
 use Rattle.walk.specs.declared.Walk.{Walk}
 use Rattle.walk.specs.Walk.{frameSize, frameOf, pastOf, moreOf, doneOf, stepOf, Lawful}
-use Rattle.walk.specs.Frames.{Entry, Ran, told, run, pad}
+use Rattle.walk.specs.Frames.{Entry, Ran, told, runBy, run, pad}
 use Rattle.demand.proofs.Steps.{Holds, step-more, step-done, holds-more, holds-past}
 use Rattle.demand.proofs.Walks.{short-append}
 use Rattle.demand.proofs.Empty.{empty-piece}
@@ -31,7 +31,7 @@ module _ (win : List ℕ → Window) (laws : Lawful win) where
   -- an empty piece is passed over
   pub run-skip : (j : ℕ) (w : Walk) (q : List ℕ) (ps : List (List ℕ)) → Holds w q → w .offset + length q < 2 ^ 64
       → run win (suc j) w ([] ∷ ps) ≡ run win j w ps
-  unfolding run
+  unfolding runBy
   run-skip j w q ps H r =
       let n : q ++ [] ≡ q = append-nil q in
       let e = step-more win laws w q H [] (rw n r) (rw n (H .short)) in
@@ -90,7 +90,7 @@ module _ (win : List ℕ → Window) (laws : Lawful win) where
       fits = omega (arith, length-append q (drop i b))
 
       ahead-more : length (q ++ drop i b) < frameSize (q ++ drop i b) → Ahead w q b i (blockOf quiet win (suc k) room w b i)
-      unfolding run
+      unfolding runBy
       ahead-more lt =
           let p = drop i b in
           let st = moreOf w (pad 52 (q ++ p)) (length p) in
@@ -104,7 +104,7 @@ module _ (win : List ℕ → Window) (laws : Lawful win) where
 
       -- the frame's size, its bytes in the block from i on, and its answer
       ahead-done : frameSize (q ++ drop i b) ≤ length (q ++ drop i b) → Ahead w q b i (blockOf quiet win (suc k) room w b i)
-      unfolding run doneOf
+      unfolding runBy doneOf
       ahead-done le =
           let p = drop i b in
           let n = frameSize (q ++ p) in

@@ -11,20 +11,22 @@ use lib.Dec.{T, leb, eqb, eqb→eq}
 use lib.ListN.{length, getD}
 use lib.Seq.{ext-getD}
 use Rattle.format.specs.Codes.{side}
-use Rattle.format.specs.Layout.{Kind, num, time, text, code, subtype, widths, member, be, part, got, judge, field}
-use Rattle.format.specs.Rows.{Row, Found, found, none, find, window}
+use Rattle.format.specs.Layout.{Kind, num, time, text, code, subtype, widths, member, be, part, got, judge, field, accepted}
+use Rattle.format.specs.Rows.{Row, Found, found, none, find, under, bodyIn}
+use Rattle.format.specs.declared.Reading.{Reading}
 use Rattle.format.specs.Rows as Rows
 use Rattle.format.specs.Utf8.{wellFormed}
 use Rattle.format.proofs.Bytes.{Bytes, be-one}
 use Rattle.format.proofs.Fields.{field-num, field-text, field-judged}
-use Rattle.format.proofs.Runs.{Reads, end, _⨾_, body-reads}
+use Rattle.format.proofs.Runs.{Reads, end, _⨾_, reads}
 use Rattle.format.proofs.Tests.{both}
 use Rattle.format.proofs.Text.{ascii}
 use Rattle.format.proofs.Windows.{pre, window-there}
+use Rattle.format.proofs.Editions.{in-front}
 use Rattle.records.specs.declared.Message.{Message}
 use Rattle.reader.specs.declared.Window.the-variants.{Message as Accepted}
 use Rattle.reader.specs.Window.{messageFrom, windowFrom, windowOf}
-use Rattle.laws.proofs.Window.{Sized, rows-sized}
+use Rattle.laws.proofs.Window.{Sized, find-sized}
 use Rattle.plain.specs.Plain.{same, light, ends, rowOf, Table, endBy, plainOf}
 
 same-is : (xs ys : List ℕ) → T (same xs ys) → xs ≡ ys
@@ -83,21 +85,30 @@ light-reads order (code set ∷ ks) s at t h p =
     (_, at-21 order set s at (q .0) (omega arith) p ⨾ r .1)
 light-reads order (subtype ∷ ks) s at t h p = absurd t
 
--- a message in front that ends at n
+-- a row that every edition has is that of its tag, whatever the reading
+body-in : (rd : Reading) (t : ℕ) (r : Row) {s vs : List ℕ} → find Rows.base t ≡ found r → Reads s (r .body) 13 vs
+    → bodyIn rd t s ≡ accepted (t ∷ vs) (13 + widths (r .body))
+unfolding bodyIn
+body-in rd t r {s} f u = ap (λ x. under x s 13 (t ∷ [])) (in-front Rows.base (Rows.later (rd .edition)) t f) ∙ reads u (t ∷ []) accepted
+
+-- a message in front that ends at n, by any reading
 pub record Front (w : List ℕ) (n : ℕ) : Type 0 where
   pub message : Message
-  pub accepted : windowOf w ≡ Accepted message n
+  pub accepted : (rd : Reading) → windowOf rd w ≡ Accepted message n
   pub tag : message .tag ≡ getD w 2 0
 
-accepts : (w : List ℕ) (order : Bool) (r : Row) → find Rows.rows (getD w 2 0) ≡ found r → Sized (found r) → 52 ≤ length w → T (light order (r .body) 13)
+accepts : (w : List ℕ) (order : Bool) (r : Row) → find Rows.base (getD w 2 0) ≡ found r → Sized (found r) → 52 ≤ length w → T (light order (r .body) 13)
     → (T order → Order w) → Front w (2 + r .size)
 unfolding windowOf
 accepts w order r e z h t p =
     let v = light-reads order (r .body) w 13 t (omega arith) p in
-    let q : window w ≡ _ = window-there w (omega arith) ∙ ap (pre _) (sym (body-reads (getD w 2 0) r e (v .1))) in
     let i : 13 + widths (r .body) ≡ 2 + r .size = omega arith in
     let m : Message = messageFrom (getD w 2 0 ∷ be (part w 3 2) ∷ be (part w 5 2) ∷ be (part w 7 6) ∷ getD w 2 0 ∷ v .0) in
-    record { message = m; accepted = ap windowFrom q ∙ ap (Accepted m) i; tag = refl }
+    record {
+      message = m;
+      accepted = λ rd. ap windowFrom (window-there rd w (omega arith) ∙ ap (pre _) (body-in rd (getD w 2 0) r e (v .1))) ∙ ap (Accepted m) i;
+      tag = refl;
+    }
 
 -- what a place that is not zero says of the two rows and the stock
 record Found-end (r c stock n : ℕ) : Type 0 where
@@ -142,7 +153,7 @@ no-end k c stock n d q =
     q .flagged (rw i (omega arith))
 
 -- by the row of the tag: a body of numbers, an order, or neither
-by-row : (w : List ℕ) (f : Found) (k c stock n : ℕ) → find Rows.rows (getD w 2 0) ≡ f → Sized f → Side k → 52 ≤ length w → Found-end (ends f + k) c stock n
+by-row : (w : List ℕ) (f : Found) (k c stock n : ℕ) → find Rows.base (getD w 2 0) ≡ f → Sized f → Side k → 52 ≤ length w → Found-end (ends f + k) c stock n
     → ((c / 512 % 2 ≡ 0 → ⊥) → bitAnd stock 0x8080808080808080 ≡ 0 → Order w) → Front w n
 by-row w none k c stock n e z d h q p = absurd (no-end k c stock n d q)
 by-row w (found r) k c stock n e z d h q p = go (light false (r .body) 13) (light true (r .body) 13) refl refl q
@@ -161,18 +172,21 @@ by-row w (found r) k c stock n e z d h q p = go (light false (r .body) 13) (ligh
         rw (← i) (accepts w true r e z h (rw y tt) (λ _. p (λ u. g (omega arith)) l))
     go false false x y q = absurd (no-end k c stock n d q)
 
+based : (t : ℕ) → Sized (find Rows.base t)
+based t = find-sized Rows.base tt t
+
 by-table : (w rows : List ℕ) (n : ℕ) → Bytes w → Table rows → 52 ≤ length w → endBy (getD rows (getD w 2 0) 0) (getD rows (getD w 21 0) 0) (be (part w 26 8)) ≡ n
     → 0 < n → Front w n
 unfolding rowOf
 by-table w rows n b t l e h =
     let x : ℕ = getD w 2 0 in
     let y : ℕ = getD w 21 0 in
-    let f : Found = find Rows.rows y in
+    let f : Found = find Rows.base y in
     let d = side-part (member y side) in
     let q = found-end (rowOf x) (rowOf y) (be (part w 26 8)) n (rw (t x (b 2), t y (b 21)) at e) h in
-    by-row w (find Rows.rows x) (cond (member x side) 512 0) (rowOf y) (be (part w 26 8)) n refl (rows-sized x) (side-part (member x side)) l q
+    by-row w (find Rows.base x) (cond (member x side) 512 0) (rowOf y) (be (part w 26 8)) n refl (based x) (side-part (member x side)) l q
     (λ g z. record {
-      legal = side-legal (member y side) (λ u. g (side-bit f (cond (member y side) 512 0) (rows-sized y) d ∙ u));
+      legal = side-legal (member y side) (λ u. g (side-bit f (cond (member y side) 512 0) (based y) d ∙ u));
       formed = ascii 8 w 26 b (omega arith) refl z;
     })
 

@@ -34,9 +34,9 @@ abbrev pub ends : Found → ℕ
 ends (found r) = cond (light false (r .body) 13) (256 + (2 + r .size)) (cond (light true (r .body) 13) (2 ^ 63 + (2 + r .size)) 0)
 ends none = 0
 
--- the rule of the table: what a byte is as a tag, and 512 where it is a legal side
+-- the rule of the table, of the rows that every edition has: what a byte is as a tag, and 512 where it is a legal side
 unfoldable pub rowOf : ℕ → ℕ
-rowOf b = ends (find Rows.rows b) + cond (member b side) 512 0
+rowOf b = ends (find Rows.base b) + cond (member b side) 512 0
 
 abbrev pub Table : List ℕ → Type 0
 Table rows = (b : ℕ) → b < 256 → getD rows b 0 ≡ rowOf b

@@ -5,6 +5,7 @@ use mathlib.Core.Path.{_≡_, refl, sym, ap, _∙_}
 use mathlib.Core.List.{List, _++_}
 use native.Mathlib.Omega.{arith}
 use lib.ListN.{length, take, drop}
+use Rattle.format.specs.declared.Reading.{Reading}
 use Rattle.stream.specs.declared.Stream.{Stream}
 use Rattle.stream.specs.declared.Step.{Step}
 use Rattle.stream.specs.declared.Answer.{Answer}
@@ -79,56 +80,57 @@ same-fetch src w g h s b at le same =
     let r = roomOf s (length b) in
     same-ready (feedBy src w g) (feedBy src w h) (r .state) (r .answer) (roomBuffer s b) at (λ _. same-feed src w g h (r .state) (roomBuffer s b) at le same)
 
-same-try : Same tryBy
+same-try : (rd : Reading) → Same (tryBy rd)
 unfolding tryBy
-same-try src w g h s b at le same =
-    same-wants (fetchBy src w g) (fetchBy src w h) (nextOf s b .state) (nextOf s b .answer) b at (λ _. same-fetch src w g h (nextOf s b .state) b at le same)
+same-try rd src w g h s b at le same =
+    same-wants (fetchBy src w g) (fetchBy src w h) (nextOf rd s b .state) (nextOf rd s b .answer) b at (λ _. same-fetch src w g h (nextOf rd s b .state) b at le same)
 
 -- tries beyond the unread bytes change nothing
-agree : (src : List ℕ) (w f g : ℕ) (s : Stream) (b : List ℕ) (at : ℕ) → at ≤ length src → length src - at < f → length src - at < g
-    → tries src w f s b at ≡ tries src w g s b at
+agree : (rd : Reading) (src : List ℕ) (w f g : ℕ) (s : Stream) (b : List ℕ) (at : ℕ) → at ≤ length src → length src - at < f → length src - at < g
+    → tries rd src w f s b at ≡ tries rd src w g s b at
 unfolding tries
-agree src w zero g s b at le hf hg = absurd (let x : ⊥ = omega arith in x)
-agree src w (suc f) zero s b at le hf hg = absurd (let x : ⊥ = omega arith in x)
-agree src w (suc f) (suc g) s b at le hf hg =
-    same-try src w (tries src w f) (tries src w g) s b at le (λ s′ b′ n lt le′. agree src w f g s′ b′ n le′ (omega arith) (omega arith))
+agree rd src w zero g s b at le hf hg = absurd (let x : ⊥ = omega arith in x)
+agree rd src w (suc f) zero s b at le hf hg = absurd (let x : ⊥ = omega arith in x)
+agree rd src w (suc f) (suc g) s b at le hf hg =
+    same-try rd src w (tries rd src w f) (tries rd src w g) s b at le (λ s′ b′ n lt le′. agree rd src w f g s′ b′ n le′ (omega arith) (omega arith))
 
 -- a try further on is a try with as many tries left as there are unread bytes
-pub enough : (src : List ℕ) (w f : ℕ) (s : Stream) (b : List ℕ) (at : ℕ) → at ≤ length src → length src - at < f → tries src w f s b at ≡ tryOf src w s b at
+pub enough : (rd : Reading) (src : List ℕ) (w f : ℕ) (s : Stream) (b : List ℕ) (at : ℕ) → at ≤ length src → length src - at < f
+    → tries rd src w f s b at ≡ tryOf rd src w s b at
 unfolding tries tryOf
-enough src w f s b at le h = agree src w f (suc (length src - at)) s b at le h (omega arith)
+enough rd src w f s b at le h = agree rd src w f (suc (length src - at)) s b at le h (omega arith)
 
 -- the steps of a call, from what its callees ensure
-module _ (src : List ℕ) (w : ℕ) (s : Stream) (b : List ℕ) (at : ℕ) where
+module _ (rd : Reading) (src : List ℕ) (w : ℕ) (s : Stream) (b : List ℕ) (at : ℕ) where
   abbrev left : Goes
-  left = tries src w (length src - at)
+  left = tries rd src w (length src - at)
 
-  tried : (r : Step) → r ≡ nextOf s b → onWants (fetchBy src w left) (r .state) (r .answer) b at ≡ tryOf src w s b at
+  tried : (r : Step) → r ≡ nextOf rd s b → onWants (fetchBy src w left) (r .state) (r .answer) b at ≡ tryOf rd src w s b at
   unfolding tryOf tryBy
   tried r e = ap (λ (x : Step). onWants (fetchBy src w left) (x .state) (x .answer) b at) e
 
-  pub try-halts : (r : Step) → r ≡ nextOf s b → (r .answer ≡ Wants → ⊥) → halt (r .state) (r .answer) b at ≡ tryOf src w s b at
+  pub try-halts : (r : Step) → r ≡ nextOf rd s b → (r .answer ≡ Wants → ⊥) → halt (r .state) (r .answer) b at ≡ tryOf rd src w s b at
   try-halts r e f = sym (halts-wants (fetchBy src w left) (r .state) (r .answer) b at f) ∙ tried r e
 
-  pub try-goes : (r : Step) → r ≡ nextOf s b → r .answer ≡ Wants → fetchOf src w (r .state) b at ≡ tryOf src w s b at
+  pub try-goes : (r : Step) → r ≡ nextOf rd s b → r .answer ≡ Wants → fetchOf rd src w (r .state) b at ≡ tryOf rd src w s b at
   unfolding fetchOf
   try-goes r e h = sym (goes-wants (fetchBy src w left) (r .state) b at h) ∙ tried r e
 
   roomed : (r : Step) (b₁ : List ℕ) → r ≡ roomOf s (length b) → b₁ ≡ roomBuffer s b
-      → onReady (feedBy src w left) (r .state) (r .answer) b₁ at ≡ fetchOf src w s b at
+      → onReady (feedBy src w left) (r .state) (r .answer) b₁ at ≡ fetchOf rd src w s b at
   unfolding fetchOf fetchBy
   roomed r b₁ e f =
       ap (λ (l : List ℕ). onReady (feedBy src w left) (r .state) (r .answer) l at) f
       ∙ ap (λ (x : Step). onReady (feedBy src w left) (x .state) (x .answer) (roomBuffer s b) at) e
 
   pub room-halts : (r : Step) (b₁ : List ℕ) → r ≡ roomOf s (length b) → b₁ ≡ roomBuffer s b → (r .answer ≡ Ready → ⊥)
-      → halt (r .state) (r .answer) b₁ at ≡ fetchOf src w s b at
+      → halt (r .state) (r .answer) b₁ at ≡ fetchOf rd src w s b at
   room-halts r b₁ e f no-room = sym (halts-ready (feedBy src w left) (r .state) (r .answer) b₁ at no-room) ∙ roomed r b₁ e f
 
   module _ (r : Step) (b₁ : List ℕ) (er : r ≡ roomOf s (length b)) (eb : b₁ ≡ roomBuffer s b) (ready : r .answer ≡ Ready)
       (n : ℕ) (b₂ : List ℕ) (t : Step) (en : n ≡ portionOf (length b₁ - r .state .end) (length src - at) w)
       (ef : b₂ ≡ take (r .state .end) b₁ ++ filled (drop (r .state .end) b₁) n (drop at src)) (et : t ≡ toldOf (r .state) n) where
-    told : onReady left (t .state) (t .answer) b₂ (at + n) ≡ fetchOf src w s b at
+    told : onReady left (t .state) (t .answer) b₂ (at + n) ≡ fetchOf rd src w s b at
     unfolding feedBy
     told =
         let e = r .state .end in
@@ -138,13 +140,13 @@ module _ (src : List ℕ) (w : ℕ) (s : Stream) (b : List ℕ) (at : ℕ) where
         ∙ sym (goes-ready (feedBy src w left) (r .state) b₁ at ready)
         ∙ roomed r b₁ er eb
 
-    pub told-halts : (t .answer ≡ Ready → ⊥) → halt (t .state) (t .answer) b₂ (at + n) ≡ fetchOf src w s b at
+    pub told-halts : (t .answer ≡ Ready → ⊥) → halt (t .state) (t .answer) b₂ (at + n) ≡ fetchOf rd src w s b at
     told-halts f = sym (halts-ready left (t .state) (t .answer) b₂ (at + n) f) ∙ told
 
     pub brings : t .answer ≡ Ready → 0 < n
     brings h = told-came (r .state) n (ap (λ (x : Step). x .answer) (sym et) ∙ h) .some
 
-    pub told-goes : at ≤ length src → t .answer ≡ Ready → tryOf src w (t .state) b₂ (at + n) ≡ fetchOf src w s b at
+    pub told-goes : at ≤ length src → t .answer ≡ Ready → tryOf rd src w (t .state) b₂ (at + n) ≡ fetchOf rd src w s b at
     told-goes le h =
         let m = brings h in
-        sym (enough src w (length src - at) (t .state) b₂ (at + n) (omega arith) (omega arith)) ∙ sym (goes-ready left (t .state) b₂ (at + n) h) ∙ told
+        sym (enough rd src w (length src - at) (t .state) b₂ (at + n) (omega arith) (omega arith)) ∙ sym (goes-ready left (t .state) b₂ (at + n) h) ∙ told

@@ -5,6 +5,7 @@ use mathlib.Core.List.{List, _++_}
 use mathlib.Core.Bool.{cond}
 use lib.Dec.{leb, eqb}
 use lib.ListN.{length, take, drop}
+use Rattle.format.specs.declared.Reading.{Reading}
 use Rattle.stream.specs.declared.Stream.{Stream}
 use Rattle.stream.specs.declared.Answer.{Answer}
 use Rattle.stream.specs.declared.Answer.the-variants.{Message, Wants, Ready, Nothing, Refused}
@@ -59,22 +60,22 @@ feedBy src w g s b at =
 unfoldable pub fetchBy : List ℕ → ℕ → Goes → Goes
 fetchBy src w g s b at = onReady (feedBy src w g) (roomOf s (length b) .state) (roomOf s (length b) .answer) (roomBuffer s b) at
 
-unfoldable pub tryBy : List ℕ → ℕ → Goes → Goes
-tryBy src w g s b at = onWants (fetchBy src w g) (nextOf s b .state) (nextOf s b .answer) b at
+unfoldable pub tryBy : Reading → List ℕ → ℕ → Goes → Goes
+tryBy rd src w g s b at = onWants (fetchBy src w g) (nextOf rd s b .state) (nextOf rd s b .answer) b at
 
 -- tried again at most so many times; a try at 0 is never reached, since each fetch that goes on brings a byte
-unfoldable pub tries : List ℕ → ℕ → ℕ → Goes
-tries src w zero = λ s b at. halt s Wants b at
-tries src w (suc f) = tryBy src w (tries src w f)
+unfoldable pub tries : Reading → List ℕ → ℕ → ℕ → Goes
+tries rd src w zero = λ s b at. halt s Wants b at
+tries rd src w (suc f) = tryBy rd src w (tries rd src w f)
 
-unfoldable pub tryOf : List ℕ → ℕ → Goes
-tryOf src w s b at = tryBy src w (tries src w (length src - at)) s b at
+unfoldable pub tryOf : Reading → List ℕ → ℕ → Goes
+tryOf rd src w s b at = tryBy rd src w (tries rd src w (length src - at)) s b at
 
-unfoldable pub fetchOf : List ℕ → ℕ → Goes
-fetchOf src w s b at = fetchBy src w (tries src w (length src - at)) s b at
+unfoldable pub fetchOf : Reading → List ℕ → ℕ → Goes
+fetchOf rd src w s b at = fetchBy src w (tries rd src w (length src - at)) s b at
 
 -- the whole call: 31, 30 (also for a position past the slice), 35, then the tries
-unfoldable pub playOf : List ℕ → ℕ → Goes
-playOf src w s b at =
+unfoldable pub playOf : Reading → List ℕ → ℕ → Goes
+playOf rd src w s b at =
     let bad : ℕ → Out = λ n. halt s (Refused n 0) b at in
-    sized (length b) bad (inBounds s bad (cond (leb at (length src)) (cond (eqb w 0) (bad 35) (tryOf src w s b at)) (bad 30)))
+    sized (length b) bad (inBounds s bad (cond (leb at (length src)) (cond (eqb w 0) (bad 35) (tryOf rd src w s b at)) (bad 30)))

@@ -4,6 +4,7 @@ ghost use mathlib.Core.List.{_++_};
 ghost use Prim.Native.Nat.{_+_, _-_, _≤_};
 ghost use lib.ListN.{length, take, drop};
 ghost use Rattle.play.specs.Play.{portionOf, filled, tryOf, fetchOf, playOf};
+use format::Reading;
 use stream::Answer;
 use stream::Stream;
 
@@ -50,26 +51,33 @@ fn fill(buf: &mut [u8], end: usize, src: &[u8], at: usize, width: usize) -> usiz
     n
 }
 
-// Tries the window; where it wants bytes, fetches.
-fn try_window(s: Stream, buf: &mut [u8], src: &[u8], at: usize, width: usize) -> Played
+// Tries the window by a reading; where it wants bytes, fetches.
+fn try_window(
+    s: Stream,
+    buf: &mut [u8],
+    src: &[u8],
+    at: usize,
+    width: usize,
+    reading: Reading,
+) -> Played
     requires { ⌜ at ≤ length (now src) ⌝ }
-    ensures { λ r. ⌜ r ≡ tryOf (now (src .entry)) width s (now (buf .entry)) at .played ⌝ }
-    ensures { λ _. ⌜ now (buf .exit) ≡ tryOf (now (src .entry)) width s (now (buf .entry)) at .buffer ⌝ }
+    ensures { λ r. ⌜ r ≡ tryOf reading (now (src .entry)) width s (now (buf .entry)) at .played ⌝ }
+    ensures { λ _. ⌜ now (buf .exit) ≡ tryOf reading (now (src .entry)) width s (now (buf .entry)) at .buffer ⌝ }
 {
-    let step = stream::next_of(s, &buf[..]);
+    let step = stream::next_of(s, &buf[..], reading);
     let state = step.state;
     let answer = step.answer;
     let Answer::Wants = answer else {
         return Played { state, at, answer };
     };
-    fetch(state, buf, src, at, width)
+    fetch(state, buf, src, at, width, reading)
 }
 
 // Makes room, hands the free part on to be filled, tells how many bytes came, and tries again.
-fn fetch(s: Stream, buf: &mut [u8], src: &[u8], at: usize, width: usize) -> Played
+fn fetch(s: Stream, buf: &mut [u8], src: &[u8], at: usize, width: usize, reading: Reading) -> Played
     requires { ⌜ at ≤ length (now src) ⌝ }
-    ensures { λ r. ⌜ r ≡ fetchOf (now (src .entry)) width s (now (buf .entry)) at .played ⌝ }
-    ensures { λ _. ⌜ now (buf .exit) ≡ fetchOf (now (src .entry)) width s (now (buf .entry)) at .buffer ⌝ }
+    ensures { λ r. ⌜ r ≡ fetchOf reading (now (src .entry)) width s (now (buf .entry)) at .played ⌝ }
+    ensures { λ _. ⌜ now (buf .exit) ≡ fetchOf reading (now (src .entry)) width s (now (buf .entry)) at .buffer ⌝ }
 {
     let step = refill::make_room_of(s, buf);
     let state = step.state;
@@ -90,7 +98,7 @@ fn fetch(s: Stream, buf: &mut [u8], src: &[u8], at: usize, width: usize) -> Play
             answer: said,
         };
     };
-    try_window(fed, buf, src, next, width)
+    try_window(fed, buf, src, next, width, reading)
 }
 
 // A refusal before the window is tried: the state and the position stay.
@@ -104,11 +112,18 @@ fn stopped(s: Stream, at: usize, number: u8) -> Played
     }
 }
 
-// Reads on in the slice `src` from position `at`, in pieces of `width` bytes, to the first answer that does not want bytes: a message, nothing more or a
-// refusal. The position moves on by what was fetched. First come 31, 30 (also for a position past the slice) and 35.
-pub fn play(s: Stream, buf: &mut [u8], src: &[u8], at: usize, width: usize) -> Played
-    ensures { λ r. ⌜ r ≡ playOf (now (src .entry)) width s (now (buf .entry)) at .played ⌝ }
-    ensures { λ _. ⌜ now (buf .exit) ≡ playOf (now (src .entry)) width s (now (buf .entry)) at .buffer ⌝ }
+// Reads on in the slice `src` from position `at`, in pieces of `width` bytes and by a reading, to the first answer that does not want bytes: a message,
+// nothing more or a refusal. The position moves on by what was fetched. First come 31, 30 (also for a position past the slice) and 35.
+pub fn play(
+    s: Stream,
+    buf: &mut [u8],
+    src: &[u8],
+    at: usize,
+    width: usize,
+    reading: Reading,
+) -> Played
+    ensures { λ r. ⌜ r ≡ playOf reading (now (src .entry)) width s (now (buf .entry)) at .played ⌝ }
+    ensures { λ _. ⌜ now (buf .exit) ≡ playOf reading (now (src .entry)) width s (now (buf .entry)) at .buffer ⌝ }
 {
     let start = s.start;
     let end = s.end;
@@ -127,5 +142,5 @@ pub fn play(s: Stream, buf: &mut [u8], src: &[u8], at: usize, width: usize) -> P
     if width == 0 {
         return stopped(s, at, 35);
     }
-    try_window(s, buf, src, at, width)
+    try_window(s, buf, src, at, width, reading)
 }

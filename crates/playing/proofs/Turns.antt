@@ -10,6 +10,7 @@ use native.Mathlib.Omega.{arith}
 use borrow.Author.Tests.{leb-true}
 use lib.Dec.{leb, eqb}
 use lib.ListN.{length, take, drop}
+use Rattle.format.specs.declared.Reading.{Reading}
 use Rattle.records.specs.declared.Message.{Message as Record}
 use Rattle.stream.specs.declared.Stream.{Stream}
 use Rattle.stream.specs.declared.Step.{Step}
@@ -40,12 +41,12 @@ ready-or Nothing = inr (λ e. let z : _≡_ {A = ℕ} 0 1 = cc in omega arith)
 ready-or (Refused n p) = inr (λ e. let z : _≡_ {A = ℕ} 0 1 = cc in omega arith)
 
 -- a turn's parts: room made behind next, the piece that goes into it, and what is told
-module _ (src : List ℕ) (w : ℕ) (s : Stream) (b : List ℕ) (at : ℕ) where
+module _ (rd : Reading) (src : List ℕ) (w : ℕ) (s : Stream) (b : List ℕ) (at : ℕ) where
   abbrev pub made : Step
-  made = roomOf (nextOf s b .state) (length b)
+  made = roomOf (nextOf rd s b .state) (length b)
 
   abbrev pub room : List ℕ
-  room = roomBuffer (nextOf s b .state) b
+  room = roomBuffer (nextOf rd s b .state) b
 
   abbrev pub portion : ℕ
   portion = portionOf (length room - made .state .end) (length src - at) w
@@ -58,15 +59,15 @@ module _ (src : List ℕ) (w : ℕ) (s : Stream) (b : List ℕ) (at : ℕ) where
 
   -- the ways out of a turn
   pub turn : (P : Out → Type 0) (g : Goes)
-      → ((nextOf s b .answer ≡ Wants → ⊥) → P (halt (nextOf s b .state) (nextOf s b .answer) b at))
-      → (nextOf s b .answer ≡ Wants → (made .answer ≡ Ready → ⊥) → P (halt (made .state) (made .answer) room at))
-      → (nextOf s b .answer ≡ Wants → made .answer ≡ Ready → (fed .answer ≡ Ready → ⊥) → P (halt (fed .state) (fed .answer) put-in (at + portion)))
-      → (nextOf s b .answer ≡ Wants → made .answer ≡ Ready → fed .answer ≡ Ready → P (g (fed .state) put-in (at + portion)))
-      → P (tryBy src w g s b at)
+      → ((nextOf rd s b .answer ≡ Wants → ⊥) → P (halt (nextOf rd s b .state) (nextOf rd s b .answer) b at))
+      → (nextOf rd s b .answer ≡ Wants → (made .answer ≡ Ready → ⊥) → P (halt (made .state) (made .answer) room at))
+      → (nextOf rd s b .answer ≡ Wants → made .answer ≡ Ready → (fed .answer ≡ Ready → ⊥) → P (halt (fed .state) (fed .answer) put-in (at + portion)))
+      → (nextOf rd s b .answer ≡ Wants → made .answer ≡ Ready → fed .answer ≡ Ready → P (g (fed .state) put-in (at + portion)))
+      → P (tryBy rd src w g s b at)
   unfolding tryBy fetchBy feedBy
   turn P g next-out room-out told-out goes =
       ⊎-elim
-      (λ e. subst P (sym (goes-wants (fetchBy src w g) (nextOf s b .state) b at e))
+      (λ e. subst P (sym (goes-wants (fetchBy src w g) (nextOf rd s b .state) b at e))
       (⊎-elim
       (λ r. subst P (sym (goes-ready (feedBy src w g) (made .state) room at r))
       (⊎-elim
@@ -75,8 +76,8 @@ module _ (src : List ℕ) (w : ℕ) (s : Stream) (b : List ℕ) (at : ℕ) where
       (ready-or (fed .answer))))
       (λ f. subst P (sym (halts-ready (feedBy src w g) (made .state) (made .answer) room at f)) (room-out e f))
       (ready-or (made .answer))))
-      (λ f. subst P (sym (halts-wants (fetchBy src w g) (nextOf s b .state) (nextOf s b .answer) b at f)) (next-out f))
-      (wants-or (nextOf s b .answer))
+      (λ f. subst P (sym (halts-wants (fetchBy src w g) (nextOf rd s b .state) (nextOf rd s b .answer) b at f)) (next-out f))
+      (wants-or (nextOf rd s b .answer))
 
   -- a piece that was told brings a byte at least, and no more than are left
   pub onward : at ≤ length src → fed .answer ≡ Ready → (at < at + portion) × (at + portion ≤ length src)
@@ -94,42 +95,42 @@ pub data Final : Answer → Type 0 where
   told : {m : Record} → Final (Message m)
   stop : {a : Answer} → stops a ≡ true → Final a
 
-next-step : (s : Stream) (b : List ℕ) (x : Step) → Next s b x → (x .answer ≡ Wants → ⊥) → Final (x .answer)
+next-step : (rd : Reading) (s : Stream) (b : List ℕ) (x : Step) → Next rd s b x → (x .answer ≡ Wants → ⊥) → Final (x .answer)
 unfolding stops
-next-step s b _ (no-next _) f = stop refl
-next-step s b _ (message h l m n w d) f = told
-next-step s b _ (wants h l w) f = absurd (f refl)
-next-step s b _ (marked-next h l n p w) f = stop (marks-stops s n p)
+next-step rd s b _ (no-next _) f = stop refl
+next-step rd s b _ (message h l m n w d) f = told
+next-step rd s b _ (wants h l w) f = absurd (f refl)
+next-step rd s b _ (marked-next h l n p w) f = stop (marks-stops s n p)
 
-pub next-final : (s : Stream) (b : List ℕ) → (nextOf s b .answer ≡ Wants → ⊥) → Final (nextOf s b .answer)
-next-final s b f = next-step s b (nextOf s b) (next-is s b) f
+pub next-final : (rd : Reading) (s : Stream) (b : List ℕ) → (nextOf rd s b .answer ≡ Wants → ⊥) → Final (nextOf rd s b .answer)
+next-final rd s b f = next-step rd s b (nextOf rd s b) (next-is rd s b) f
 
 abbrev Ends : Out → Type 0
 Ends x = Final (x .played .answer)
 
-tries-final : (src : List ℕ) (w f : ℕ) (s : Stream) (b : List ℕ) (at : ℕ) → at ≤ length src → length src - at < f → Ends (tries src w f s b at)
+tries-final : (rd : Reading) (src : List ℕ) (w f : ℕ) (s : Stream) (b : List ℕ) (at : ℕ) → at ≤ length src → length src - at < f → Ends (tries rd src w f s b at)
 unfolding tries
-tries-final src w zero s b at le h = absurd (omega arith)
-tries-final src w (suc f) s b at le h =
-    turn src w s b at Ends (tries src w f)
-    (λ g. next-final s b g)
-    (λ _ g. stop (room-refused (nextOf s b .state) (length b) g .1))
-    (λ _ _ g. stop (told-heard (made src w s b at .state) (portion src w s b at) .ends g))
-    (λ _ _ g. let o = onward src w s b at le g in tries-final src w f _ _ (at + portion src w s b at) (o .1) (omega arith))
+tries-final rd src w zero s b at le h = absurd (omega arith)
+tries-final rd src w (suc f) s b at le h =
+    turn rd src w s b at Ends (tries rd src w f)
+    (λ g. next-final rd s b g)
+    (λ _ g. stop (room-refused (nextOf rd s b .state) (length b) g .1))
+    (λ _ _ g. stop (told-heard (made rd src w s b at .state) (portion rd src w s b at) .ends g))
+    (λ _ _ g. let o = onward rd src w s b at le g in tries-final rd src w f _ _ (at + portion rd src w s b at) (o .1) (omega arith))
 
 tried : (b : Bool) (x y : Out) → (b ≡ true → Ends x) → (b ≡ false → Ends y) → Ends (cond b x y)
 tried true x y f g = f refl
 tried false x y f g = g refl
 
-play-final : (src : List ℕ) (w : ℕ) (s : Stream) (b : List ℕ) (at : ℕ) → Final (playOf src w s b at .played .answer)
+play-final : (rd : Reading) (src : List ℕ) (w : ℕ) (s : Stream) (b : List ℕ) (at : ℕ) → Final (playOf rd src w s b at .played .answer)
 unfolding playOf tryOf tries stops
-play-final src w s b at =
+play-final rd src w s b at =
     let bad : (n : ℕ) → Ends (halt s (Refused n 0) b at) = λ n. stop refl in
     tried (eqb (length b) 8192) _ _
     (λ _. tried (leb (s .start) (s .end)) _ _
     (λ _. tried (leb (s .end) 8192) _ _
     (λ _. tried (leb at (length src)) _ _
-    (λ h. tried (eqb w 0) _ _ (λ _. bad 35) (λ _. tries-final src w (suc (length src - at)) s b at (leb-true _ _ h) (omega arith)))
+    (λ h. tried (eqb w 0) _ _ (λ _. bad 35) (λ _. tries-final rd src w (suc (length src - at)) s b at (leb-true _ _ h) (omega arith)))
     (λ _. bad 30))
     (λ _. bad 30))
     (λ _. bad 30))
@@ -140,11 +141,11 @@ final-not told h f e = f _ (sym e)
 final-not (stop g) h f e = stops-not g h e
 
 -- so play never answers that it wants bytes, or that it is ready
-pub never-waits : (src : List ℕ) (w : ℕ) (s : Stream) (b : List ℕ) (at : ℕ)
-    → (playOf src w s b at .played .answer ≡ Wants → ⊥) × (playOf src w s b at .played .answer ≡ Ready → ⊥)
+pub never-waits : (rd : Reading) (src : List ℕ) (w : ℕ) (s : Stream) (b : List ℕ) (at : ℕ)
+    → (playOf rd src w s b at .played .answer ≡ Wants → ⊥) × (playOf rd src w s b at .played .answer ≡ Ready → ⊥)
 unfolding stops
-never-waits src w s b at =
-    let p = play-final src w s b at in (
+never-waits rd src w s b at =
+    let p = play-final rd src w s b at in (
       final-not p refl (λ m e. let z : _≡_ {A = ℕ} 0 1 = cc in omega arith),
       final-not p refl (λ m e. let z : _≡_ {A = ℕ} 0 1 = cc in omega arith),
     )

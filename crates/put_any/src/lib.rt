@@ -75,5 +75,11 @@ pub fn put_body(buf: &mut [u8], b: Body)
             reserved,
             reason,
         } => put_bodies::put_trading_action(buf, stock, trading_state, reserved, reason),
+        Body::OperationalHalt {
+            stock,
+            market_code,
+            action,
+        } => put_bodies::put_operational_halt(buf, stock, market_code, action),
+        Body::DirectListing(x) => put_bodies::put_direct_listing(buf, x),
     }
 }

@@ -1,16 +1,19 @@
-// The bodies, written: one function for each of the 20 kinds, in the order of their tags.
+// The bodies, written: one function for each of the 20 kinds, in the order of their tags, and for the two kinds that the later edition adds.
 //
 // Each puts its fields in order, from place 13 on, each where it fits. That the whole row fits is tested once, by the writer.
 ghost use Rattle.pen.specs.Encode.{PutBody};
 ghost use Rattle.records.specs.Values.{values};
 ghost use Rattle.put_bodies.specs.Mpids.{PutMpid};
 use codes::EventCode;
+use codes::HaltAction;
 use codes::LevelBreached;
+use codes::MarketCode;
 use codes::RegShoAction;
 use codes::TradingState;
 use records::AddOrder;
 use records::Body;
 use records::CrossTrade;
+use records::DirectListing;
 use records::ImbalanceIndicator;
 use records::IpoQuotingPeriod;
 use records::MarketParticipantPosition;
@@ -277,4 +280,32 @@ pub fn put_reg_sho_restriction(buf: &mut [u8], stock: Text8, action: RegShoActio
 {
     pen::set_u64(buf, 13, stock);
     pen::set_u8(buf, 21, codes::action_code(action));
+}
+
+// Puts the body of h, an operational halt, of the later edition.
+pub fn put_operational_halt(
+    buf: &mut [u8],
+    stock: Text8,
+    market_code: MarketCode,
+    action: HaltAction,
+)
+    ensures { λ r. ⌜ PutBody (now (buf .entry)) (values (Body.OperationalHalt stock «market_code» action)) (now (buf .exit)) ⌝ }
+{
+    pen::set_u64(buf, 13, stock);
+    pen::set_u8(buf, 21, codes::market_code(market_code));
+    pen::set_u8(buf, 22, codes::halt_code(action));
+}
+
+// Puts the body of O, a direct listing, of the later edition.
+pub fn put_direct_listing(buf: &mut [u8], x: DirectListing)
+    ensures { λ r. ⌜ PutBody (now (buf .entry)) (values (Body.DirectListing x)) (now (buf .exit)) ⌝ }
+{
+    pen::set_u64(buf, 13, x.stock);
+    pen::set_u8(buf, 21, codes::yes_no_code(x.open_eligibility));
+    pen::set_u32(buf, 22, x.minimum_price);
+    pen::set_u32(buf, 26, x.maximum_price);
+    pen::set_u32(buf, 30, x.near_execution_price);
+    pen::set_u64(buf, 34, x.near_execution_time);
+    pen::set_u32(buf, 42, x.lower_collar);
+    pen::set_u32(buf, 46, x.upper_collar);
 }

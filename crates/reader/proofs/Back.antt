@@ -5,6 +5,7 @@ use mathlib.Core.Path.{_≡_, refl, sym, ap, _∙_}
 use mathlib.Core.List.{List}
 use Prim.Native.Nat.{ℕ}
 use Rattle.format.specs.Rows.{window}
+use Rattle.format.specs.declared.Reading.{Reading}
 use Rattle.records.proofs.Back.{body-back}
 use Rattle.reader.specs.declared.Window.{Window}
 use Rattle.reader.specs.declared.Window.the-variants.{Message as Accepted, Incomplete, Refused}
@@ -16,6 +17,6 @@ window-back Incomplete = refl
 window-back (Refused n p) = refl
 
 -- what `parse_message` ensures, as an equation on its answer
-pub exactly : (s : List ℕ) (r : Window) → windowM r ≡ window s → r ≡ windowOf s
+pub exactly : (rd : Reading) (s : List ℕ) (r : Window) → windowM r ≡ window rd s → r ≡ windowOf rd s
 unfolding windowOf
-exactly s r e = sym (window-back r) ∙ ap windowFrom e
+exactly rd s r e = sym (window-back r) ∙ ap windowFrom e

@@ -1,15 +1,19 @@
--- An unknown tag: what the last arm of the match on the tag knows, and that it is refusal 1 at place 2.
+-- A tag of no arm: what the last arm of the match on the tag knows. Its body is that of a tag which the edition adds, and where there is none, refusal 1 at
+-- place 2.
 -- Assumes nothing.
-use mathlib.Core.Path.{_≡_, refl}
+use mathlib.Core.Path.{_≡_, refl, ap, sym}
 use mathlib.Core.Bool.{Bool, true, false, cond, _||_, true≢false}
 use mathlib.Core.List.{List, [], _∷_, _++_, map}
 use Prim.Native.Nat.{ℕ}
 use lib.Dec.{T, eqb}
 use mir.Val.{hasKey}
 use types.Run.{OneOf, hit}
-use Rattle.format.specs.Ascii.{'A', 'B', 'C', 'D', 'E', 'F', 'H', 'I', 'J', 'K', 'L', 'N', 'P', 'Q', 'R', 'S', 'U', 'V', 'W', 'X', 'Y'}
+use Rattle.format.specs.Ascii.{'A', 'B', 'C', 'D', 'E', 'F', 'H', 'I', 'J', 'K', 'L', 'N', 'O', 'P', 'Q', 'R', 'S', 'U', 'V', 'W', 'X', 'Y', 'h'}
 use Rattle.format.specs.Layout.{refuses}
-use Rattle.format.specs.Rows.{Row, rows, found, none, find, bodyOf}
+use Rattle.format.specs.Rows.{Row, base, added, later, found, none, find, under, bodyIn, bodyLater}
+use Rattle.format.specs.declared.Edition.the-variants.{Later}
+use Rattle.format.specs.declared.Reading.{Reading}
+use Rattle.format.proofs.Editions.{not-in-front}
 
 -- none of the tags of the arms before, the last outermost
 abbrev NoneOf : Type 0 → List (List ℕ) → ℕ → Type 0
@@ -57,6 +61,16 @@ no-row (r ∷ rs) t e = go (eqb (r .tag) t) e (no-row rs t)
     go true q rest = absurd (true≢false q)
     go false q rest = rest q
 
-pub unknown : (t : ℕ) (s : List ℕ) → NoneOf (Unit {0}) arms t → refuses 1 2 ≡ bodyOf t s
-unfolding bodyOf
-unknown t s h = rw (no-row rows t (none-of arms t (Unit {0}) h .1))
+-- a tag that the old edition does not have
+pub not-base : (rd : Reading) (t : ℕ) (s : List ℕ) → NoneOf (Unit {0}) arms t → bodyLater (rd .edition) t s ≡ bodyIn rd t s
+unfolding bodyIn bodyLater
+not-base rd t s h =
+    ap (λ f. under f s 13 (t ∷ [])) (sym (not-in-front base (later (rd .edition)) t (no-row base t (none-of arms t (Unit {0}) h .1))))
+
+-- one that no edition has
+abbrev late : List (List ℕ)
+late = ('h' ∷ []) ∷ ('O' ∷ []) ∷ []
+
+pub unknown : (t : ℕ) (s : List ℕ) → NoneOf (Unit {0}) late t → refuses 1 2 ≡ bodyLater Later t s
+unfolding bodyLater
+unknown t s h = rw (no-row added t (none-of late t (Unit {0}) h .1))

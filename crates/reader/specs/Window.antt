@@ -5,6 +5,7 @@ use mathlib.Core.List.{List, _∷_}
 use lib.ListN.{getD, drop}
 use Rattle.format.specs.Layout.{Answer, accepted, incomplete, refuses}
 use Rattle.format.specs.Rows.{window}
+use Rattle.format.specs.declared.Reading.{Reading}
 use Rattle.records.specs.declared.Message.{Message}
 use Rattle.records.specs.Values.{values, bodyFrom}
 use Rattle.reader.specs.declared.Window.{Window}
@@ -33,6 +34,6 @@ windowFrom (accepted v n) = Accepted (messageFrom v) n
 windowFrom incomplete = Incomplete
 windowFrom (refuses n p) = Refused n p
 
--- the reader's answer to a window of bytes
-unfoldable pub windowOf : List ℕ → Window
-windowOf s = windowFrom (window s)
+-- the reader's answer to a window of bytes, by a reading
+unfoldable pub windowOf : Reading → List ℕ → Window
+windowOf rd s = windowFrom (window rd s)

@@ -1,10 +1,14 @@
 // parse_message: the one judgement of a message. The header first, then the body that the tag names.
 ghost use mathlib.Core.Path.{_≡_};
-ghost use Rattle.format.specs.Rows.{bodyOf, window};
+ghost use mathlib.Core.Bool.{cond};
+ghost use Rattle.format.specs.Ascii.{'O', 'h'};
+ghost use Rattle.format.specs.Rows.{bodyOf, bodyIn, bodyLater, window};
 ghost use Rattle.records.specs.Values.{bodyM};
 ghost use Rattle.reader.specs.Window.{windowM};
+use format::Edition;
 use format::Fault;
 use format::HeaderRead;
+use format::Reading;
 use records::BodyRead;
 use records::Message;
 
@@ -15,9 +19,35 @@ pub enum Window {
     Refused(u8, usize),
 }
 
-// A function that is called from one place is compiled into its caller: so each body has one arm here, and A and F share theirs.
-fn parse_body(s: &[u8], tag: u8) -> BodyRead
-    ensures { λ r. ⌜ bodyM r ≡ bodyOf tag (now (s .entry)) ⌝ }
+// The two bodies that the later edition adds. It is called from two places, so that it is compiled by itself, and the reader, which is compiled into
+// the loops above it, stays as small as it was.
+fn later_body(s: &[u8], halt: bool) -> BodyRead
+    ensures { λ r. ⌜ bodyM r ≡ bodyOf (cond halt 'h' 'O') (now (s .entry)) ⌝ }
+{
+    if halt {
+        return added::parse_operational_halt(s);
+    }
+    added::parse_direct_listing(s)
+}
+
+// The body of a tag that the old edition does not have: unknown there, and in the later edition unless it is h or O. Nobody else looks at the edition.
+fn parse_later(s: &[u8], tag: u8, reading: Reading) -> BodyRead
+    ensures { λ r. ⌜ bodyM r ≡ bodyLater (reading .edition) tag (now (s .entry)) ⌝ }
+{
+    let edition = reading.edition;
+    match edition {
+        Edition::Old => BodyRead::No(Fault::Refused(1, 2)),
+        Edition::Later => match tag {
+            b'h' => later_body(s, true),
+            b'O' => later_body(s, false),
+            _ => BodyRead::No(Fault::Refused(1, 2)),
+        },
+    }
+}
+
+// The body that a tag names. A function that is called from one place is compiled into its caller: so each body has one arm here, and A and F share theirs.
+fn parse_body(s: &[u8], tag: u8, reading: Reading) -> BodyRead
+    ensures { λ r. ⌜ bodyM r ≡ bodyIn reading tag (now (s .entry)) ⌝ }
 {
     match tag {
         b'A' | b'F' => orders::parse_add_order(s, tag == b'F'),
@@ -40,20 +70,20 @@ fn parse_body(s: &[u8], tag: u8) -> BodyRead
         b'W' => notices::parse_breach(s),
         b'X' => orders::parse_order_cancelled(s),
         b'Y' => notices::parse_reg_sho_restriction(s),
-        _ => BodyRead::No(Fault::Refused(1, 2)),
+        _ => parse_later(s, tag, reading),
     }
 }
 
-// Reads one window: its message and the bytes consumed, incomplete, or the first bad field's number and place.
-pub fn parse_message(s: &[u8]) -> Window
-    ensures { λ r. ⌜ windowM r ≡ window (now (s .entry)) ⌝ }
+// Reads one window by a reading: its message and the bytes consumed, incomplete, or the first bad field's number and place.
+pub fn parse_message(s: &[u8], reading: Reading) -> Window
+    ensures { λ r. ⌜ windowM r ≡ window reading (now (s .entry)) ⌝ }
 {
     let h = format::read_header(s);
     let HeaderRead::Got(header) = h else {
         return Window::Incomplete;
     };
     let tag = header.tag;
-    let b = parse_body(s, tag);
+    let b = parse_body(s, tag, reading);
     match b {
         BodyRead::Got(body, consumed) => Window::Message(
             Message {

@@ -5,10 +5,10 @@ use mathlib.Core.Bool.{cond}
 use mathlib.Core.List.{List, [], _∷_}
 use lib.Dec.{eqb}
 use lib.ListN.{getD}
-use Rattle.format.specs.Ascii.{'A', 'B', 'C', 'D', 'E', 'F', 'H', 'I', 'J', 'K', 'L', 'N', 'P', 'Q', 'R', 'S', 'U', 'V', 'W', 'X', 'Y'}
+use Rattle.format.specs.Ascii.{'A', 'B', 'C', 'D', 'E', 'F', 'H', 'I', 'J', 'K', 'L', 'N', 'O', 'P', 'Q', 'R', 'S', 'U', 'V', 'W', 'X', 'Y', 'h'}
 use Rattle.format.specs.Layout.{Answer, accepted}
 use Rattle.format.specs.Meaning.{stopM}
-use Rattle.codes.specs.Names.{actionByte, authenticityByte, categoryByte, classByte, crossByte, directionByte, etpFlagByte, eventByte, flagByte, interestByte, levelByte, makerModeByte, participantStateByte, qualifierByte, sideByte, statusByte, tierByte, tradingStateByte, yesNoByte, actionFrom, categoryFrom, classFrom, crossFrom, directionFrom, etpFlagFrom, eventFrom, flagFrom, interestFrom, levelFrom, makerModeFrom, participantStateFrom, qualifierFrom, sideFrom, statusFrom, tierFrom, tradingStateFrom, subtypeByte, subtypeFrom}
+use Rattle.codes.specs.Names.{actionByte, authenticityByte, categoryByte, classByte, crossByte, directionByte, etpFlagByte, eventByte, flagByte, haltByte, interestByte, levelByte, makerModeByte, marketByte, participantStateByte, qualifierByte, sideByte, statusByte, tierByte, tradingStateByte, yesNoByte, actionFrom, categoryFrom, classFrom, crossFrom, directionFrom, etpFlagFrom, eventFrom, flagFrom, haltFrom, interestFrom, levelFrom, makerModeFrom, marketFrom, participantStateFrom, qualifierFrom, sideFrom, statusFrom, tierFrom, tradingStateFrom, subtypeByte, subtypeFrom}
 use Rattle.records.specs.declared.Mpid.{Mpid}
 use Rattle.records.specs.declared.Mpid.the-variants.{Absent, Present}
 use Rattle.records.specs.declared.AddOrder.{AddOrder}
@@ -20,6 +20,7 @@ use Rattle.records.specs.declared.NonCrossTrade.{NonCrossTrade}
 use Rattle.records.specs.declared.CrossTrade.{CrossTrade}
 use Rattle.records.specs.declared.StockDirectory.{StockDirectory}
 use Rattle.records.specs.declared.ReplaceOrder.{ReplaceOrder}
+use Rattle.records.specs.declared.DirectListing.{DirectListing}
 use Rattle.records.specs.declared.Body.{Body}
 use Rattle.records.specs.declared.Body.the-variants as Body·
 use Rattle.records.specs.declared.BodyRead.{BodyRead}
@@ -60,6 +61,10 @@ values (Body·.StockDirectory x) =
     ∷ yesNoByte (x .«inverse_indicator») ∷ []
 values (Body·.SystemEvent event) = 'S' ∷ eventByte event ∷ []
 values (Body·.TradingAction stock trading-state reserved reason) = 'H' ∷ stock ∷ tradingStateByte trading-state ∷ reserved ∷ reason ∷ []
+values (Body·.OperationalHalt stock market-code action) = 'h' ∷ stock ∷ marketByte market-code ∷ haltByte action ∷ []
+values (Body·.DirectListing x) =
+    'O' ∷ x .stock ∷ yesNoByte (x .«open_eligibility») ∷ x .«minimum_price» ∷ x .«maximum_price» ∷ x .«near_execution_price»
+    ∷ x .«near_execution_time» ∷ x .«lower_collar» ∷ x .«upper_collar» ∷ []
 
 abbrev pub orderFrom : List ℕ → Mpid → AddOrder
 orderFrom v m = record {
@@ -152,6 +157,18 @@ replaceOrderFrom v = record {
   price = getD v 4 0;
 }
 
+abbrev pub directListingFrom : List ℕ → DirectListing
+directListingFrom v = record {
+  stock = getD v 1 0;
+  «open_eligibility» = eqb (getD v 2 0) 'Y';
+  «minimum_price» = getD v 3 0;
+  «maximum_price» = getD v 4 0;
+  «near_execution_price» = getD v 5 0;
+  «near_execution_time» = getD v 6 0;
+  «lower_collar» = getD v 7 0;
+  «upper_collar» = getD v 8 0;
+}
+
 -- the body of a tag and its values; of any other list, what S would have
 unfoldable pub bodyFrom : List ℕ → Body
 bodyFrom v =
@@ -175,7 +192,9 @@ bodyFrom v =
     (cond (eqb (getD v 0 0) 'W') (Body·.Breach (levelFrom (getD v 1 0)))
     (cond (eqb (getD v 0 0) 'X') (Body·.OrderCancelled (getD v 1 0) (getD v 2 0))
     (cond (eqb (getD v 0 0) 'Y') (Body·.RegShoRestriction (getD v 1 0) (actionFrom (getD v 2 0)))
-    (Body·.SystemEvent (eventFrom (getD v 1 0))))))))))))))))))))))
+    (cond (eqb (getD v 0 0) 'h') (Body·.OperationalHalt (getD v 1 0) (marketFrom (getD v 2 0)) (haltFrom (getD v 3 0)))
+    (cond (eqb (getD v 0 0) 'O') (Body·.DirectListing (directListingFrom v))
+    (Body·.SystemEvent (eventFrom (getD v 1 0))))))))))))))))))))))))
 
 -- what a body's answer means
 abbrev pub bodyM : BodyRead → Answer

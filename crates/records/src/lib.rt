@@ -1,10 +1,11 @@
-// The messages: Message, Body with its 20 kinds, and their structs, named as in the Rust. A text is kept as the number that its bytes are, a price
-// as the raw number that it is on the wire.
+// The messages: Message, Body with its 20 kinds and their structs, named as in the Rust, and the two kinds that the later edition adds. A text is
+// kept as the number that its bytes are, a price as the raw number that it is on the wire.
 use codes::CrossType;
 use codes::EtpFlag;
 use codes::EventCode;
 use codes::FinancialStatus;
 use codes::Flag;
+use codes::HaltAction;
 use codes::ImbalanceDirection;
 use codes::InterestFlag;
 use codes::IpoReleaseQualifier;
@@ -13,6 +14,7 @@ use codes::IssueSubType;
 use codes::LevelBreached;
 use codes::LuldRefPriceTier;
 use codes::MarketCategory;
+use codes::MarketCode;
 use codes::MarketMakerMode;
 use codes::MarketParticipantState;
 use codes::RegShoAction;
@@ -132,7 +134,21 @@ pub struct ReplaceOrder {
     pub price: Price4,
 }
 
-// What a message says, by its kind. A and F share one.
+// O, of the later edition: the prices of a stock that is listed directly and raises capital.
+pub struct DirectListing {
+    pub stock: Text8,
+    // whether it may open for trading
+    pub open_eligibility: bool,
+    pub minimum_price: Price4,
+    pub maximum_price: Price4,
+    pub near_execution_price: Price4,
+    // nanoseconds since midnight
+    pub near_execution_time: u64,
+    pub lower_collar: Price4,
+    pub upper_collar: Price4,
+}
+
+// What a message says, by its kind. A and F share one. The last two are of the later edition.
 pub enum Body {
     AddOrder(AddOrder),
     Breach(LevelBreached),
@@ -192,6 +208,12 @@ pub enum Body {
         reserved: u8,
         reason: Text4,
     },
+    OperationalHalt {
+        stock: Text8,
+        market_code: MarketCode,
+        action: HaltAction,
+    },
+    DirectListing(DirectListing),
 }
 
 // A whole message: its header, without the length, and its body.

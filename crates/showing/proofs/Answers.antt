@@ -4,6 +4,7 @@ use Prim.Native.Nat.{ℕ, _+_, _≤_}
 use mathlib.Core.Path.{_≡_, sym, ap, _∙_}
 use mathlib.Core.List.{List}
 use native.Mathlib.Omega.{arith}
+use Rattle.format.specs.declared.Reading.{Reading}
 use Rattle.stream.specs.declared.Stream.{Stream}
 use Rattle.stream.specs.declared.Answer.{Answer}
 use Rattle.stream.specs.declared.Answer.the-variants.{Ready}
@@ -22,9 +23,9 @@ free-inside s len r e k =
     let g : r .state ≡ x .state = ap (λ (f : Flat). f .state) e ∙ flat-state (x .state) (x .answer) in
     rw g (omega (arith, h .whole, h .free))
 
-pub counted : (s : Stream) (b : List ℕ) (r : Flat) → r ≡ stepFlat (nextOf s b) → 65 ≤ r .kind → r .state .messages ≡ s .messages + 1
-counted s b r e k =
-    let x = nextOf s b in
+pub counted : (rd : Reading) (s : Stream) (b : List ℕ) (r : Flat) → r ≡ stepFlat (nextOf rd s b) → 65 ≤ r .kind → r .state .messages ≡ s .messages + 1
+counted rd s b r e k =
+    let x = nextOf rd s b in
     let m = is-message (x .state) (x .answer) (rw (ap (λ (f : Flat). f .kind) e) at k) in
     let g : r .state ≡ x .state = ap (λ (f : Flat). f .state) e ∙ flat-state (x .state) (x .answer) in
-    rw g (next-message s b (m .0) (m .1) .messages)
+    rw g (next-message rd s b (m .0) (m .1) .messages)

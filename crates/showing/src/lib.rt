@@ -1,7 +1,7 @@
 // What the stream answers, as text: a line for each message with every field under the Rust's names. The two programs over it:
 //
-// `show` reads standard input as a stream, to its first refusal or its end. Behind the messages it prints `messages N`, `consumed N` (the bytes
-// of the messages answered) and `stopped N P` (the refusal's number and place, `0 0` at a clean end).
+// `show` reads standard input as a stream, to its first refusal or its end, with the word `later` by the later edition. Behind the messages it prints
+// `messages N`, `consumed N` (the bytes of the messages answered) and `stopped N P` (the refusal's number and place, `0 0` at a clean end).
 //
 // `cases` plays the reads that its standard input lists (crate reads). For each case: a fresh stream and a zeroed buffer; next is tried again and
 // again; where it wants bytes the next read is played, or one that brings nothing where the case has none left. A message prints its line, a refusal
@@ -14,6 +14,7 @@ ghost use mathlib.Core.Path.{_≡_};
 ghost use Prim.Native.Nat.{_+_, _-_, _*_, _≤_, _<_};
 ghost use lib.ListN.{length};
 use flat::Flat;
+use format::Reading;
 use reads::Place;
 use reads::Read;
 use stream::Stream;
@@ -33,8 +34,11 @@ fn header(v: &[u64], out: &mut [u8], at: usize) -> usize
     )
 }
 
-// The template of a kind: that of its letter, behind the first two. There is always room, since the table and its values take less than a line is given
-// below.
+// The one kind that is no capital letter: h.
+const HALT: u64 = 104;
+
+// The template of a kind: that of its letter, behind the first two, and h's behind Y's. There is always room, since the table and its values take less
+// than a line is given below.
 fn by_kind(kind: u64, v: &[u64], table: &[u8], starts: &[usize], out: &mut [u8], at: usize) -> usize
     requires { ⌜ at ≤ length (now out) ⌝ }
     ensures { λ r. ⌜ r ≤ length (now (out .entry)) ⌝ }
@@ -42,6 +46,9 @@ fn by_kind(kind: u64, v: &[u64], table: &[u8], starts: &[usize], out: &mut [u8],
     let mut slot = kind;
     if kind >= flat::FIRST {
         slot = kind - flat::FIRST + 2;
+    }
+    if kind == HALT {
+        slot = 27;
     }
     let k = slot as usize;
     if k >= starts.len() {
@@ -98,14 +105,22 @@ struct Said {
 }
 
 // Takes the window's messages and puts their lines, to the first answer that is none.
-fn drain(s0: Stream, b: &[u8], table: &[u8], starts: &[usize], out: &mut [u8], at0: usize) -> Said
+fn drain(
+    s0: Stream,
+    b: &[u8],
+    table: &[u8],
+    starts: &[usize],
+    out: &mut [u8],
+    at0: usize,
+    reading: Reading,
+) -> Said
     requires { ⌜ (6144 ≤ length (now out)) × (at0 ≤ length (now out)) ⌝ }
     ensures { λ r. ⌜ r .at ≤ length (now (out .entry)) ⌝ }
 {
     let mut s = s0;
     let mut at = at0;
     loop {
-        let f = flat::next(s, b);
+        let f = flat::next(s, b, reading);
         if f.kind < flat::FIRST {
             return Said {
                 f,
@@ -254,6 +269,7 @@ fn turn(
     table: &[u8],
     starts: &[usize],
     out: &mut [u8],
+    reading: Reading,
 ) -> Run
     requires { ⌜ (6144 ≤ length (now out)) × (c .at ≤ length (now out)) ⌝ }
     ensures { λ r. ⌜ r .at ≤ length (now (out .entry)) ⌝ }
@@ -261,7 +277,7 @@ fn turn(
     let last = c.f;
     let s = last.state;
     let place = c.place;
-    let d = drain(s, buf, table, starts, out, c.at);
+    let d = drain(s, buf, table, starts, out, c.at, reading);
     let said = d.f;
     if !d.written {
         return Run {
@@ -286,6 +302,7 @@ fn turns(
     starts: &[usize],
     out: &mut [u8],
     at: usize,
+    reading: Reading,
 ) -> Run
     requires { ⌜ (6144 ≤ length (now out)) × (at ≤ length (now out)) ⌝ }
     ensures { λ r. ⌜ r .at ≤ length (now (out .entry)) ⌝ }
@@ -306,7 +323,7 @@ fn turns(
     };
     let mut left = u64::MAX;
     while left > 0 {
-        let then = turn(c, &mut buf, raw, list, table, starts, out);
+        let then = turn(c, &mut buf, raw, list, table, starts, out, reading);
         c = then;
         if !c.more {
             return c;
@@ -375,8 +392,9 @@ fn number_of(f: Flat) -> u8 {
 fn show_all(words: Words, table: &[u8], starts: &[usize], out: &mut [u8])
     requires { ⌜ 6144 ≤ length (now out) ⌝ }
 {
+    let reading = words::reading(words);
     let none = [0u8; 1];
-    let c = turns(true, &none, 0, table, starts, out, 0);
+    let c = turns(true, &none, 0, table, starts, out, 0, reading);
     let f = c.f;
     let state = f.state;
     let taken = last_lines(f, c.written, out, c.at);
@@ -399,11 +417,12 @@ fn one_case(
     starts: &[usize],
     out: &mut [u8],
     at: usize,
+    reading: Reading,
 ) -> Played
     requires { ⌜ (6144 ≤ length (now out)) × (at ≤ length (now out)) ⌝ }
     ensures { λ r. ⌜ (r .i ≡ end) × (r .at ≤ length (now (out .entry))) ⌝ }
 {
-    let c = turns(false, list, i, table, starts, out, at);
+    let c = turns(false, list, i, table, starts, out, at, reading);
     let f = c.f;
     let s = f.state;
     let r = line_room(out, c.at);
@@ -416,7 +435,14 @@ fn one_case(
 }
 
 // The whole cases of the list.
-fn whole_cases(list: &[u8], table: &[u8], starts: &[usize], out: &mut [u8], at: usize) -> Played
+fn whole_cases(
+    list: &[u8],
+    table: &[u8],
+    starts: &[usize],
+    out: &mut [u8],
+    at: usize,
+    reading: Reading,
+) -> Played
     requires { ⌜ (6144 ≤ length (now out)) × (at ≤ length (now out)) ⌝ }
     ensures { λ r. ⌜ (r .i ≤ length (now (list .entry))) × (r .at ≤ length (now (out .entry))) ⌝ }
 {
@@ -431,7 +457,7 @@ fn whole_cases(list: &[u8], table: &[u8], starts: &[usize], out: &mut [u8], at: 
         if end <= i {
             return c;
         }
-        let then = one_case(list, i, end, table, starts, out, c.at);
+        let then = one_case(list, i, end, table, starts, out, c.at, reading);
         c = then;
         if !c.written {
             return c;
@@ -475,6 +501,7 @@ fn some_cases(
     starts: &[usize],
     out: &mut [u8],
     at: usize,
+    reading: Reading,
 ) -> Held
     requires { ⌜ (n ≤ length (now held)) × (6144 ≤ length (now out)) × (at ≤ length (now out)) ⌝ }
     ensures { λ r. ⌜ (r .n ≤ length (now (held .entry))) × (r .at ≤ length (now (out .entry))) ⌝ }
@@ -488,7 +515,7 @@ fn some_cases(
             written: true,
         };
     }
-    let c = whole_cases(&held[..all], table, starts, out, at);
+    let c = whole_cases(&held[..all], table, starts, out, at, reading);
     let from = c.i;
     let rest = all - from;
     to_front(held, from, rest);
@@ -508,7 +535,7 @@ fn list_buffer() -> [u8; 262144]
 }
 
 // Plays the cases of standard input. No input has as many reads as are allowed.
-fn all_cases(table: &[u8], starts: &[usize], out: &mut [u8]) -> Held
+fn all_cases(table: &[u8], starts: &[usize], out: &mut [u8], reading: Reading) -> Held
     requires { ⌜ 6144 ≤ length (now out) ⌝ }
     ensures { λ r. ⌜ r .at ≤ length (now (out .entry)) ⌝ }
 {
@@ -521,7 +548,7 @@ fn all_cases(table: &[u8], starts: &[usize], out: &mut [u8]) -> Held
     };
     let mut left = u64::MAX;
     while left > 0 {
-        let then = some_cases(&mut held, h.n, table, starts, out, h.at);
+        let then = some_cases(&mut held, h.n, table, starts, out, h.at, reading);
         h = then;
         if !h.more {
             return h;
@@ -532,10 +559,11 @@ fn all_cases(table: &[u8], starts: &[usize], out: &mut [u8]) -> Held
 }
 
 // The same, to its end; says whether no write failed.
-fn case_all(table: &[u8], starts: &[usize], out: &mut [u8]) -> bool
+fn case_all(words: Words, table: &[u8], starts: &[usize], out: &mut [u8]) -> bool
     requires { ⌜ 6144 ≤ length (now out) ⌝ }
 {
-    let h = all_cases(table, starts, out);
+    let reading = words::reading(words);
+    let h = all_cases(table, starts, out, reading);
     if !h.written {
         return false;
     }
@@ -546,7 +574,7 @@ fn case_all(table: &[u8], starts: &[usize], out: &mut [u8]) -> bool
 }
 
 // The templates of the lines, one behind the other: nothing more, refused, and for each letter from A to Y what comes behind `body=` in the line of a message
-// whose body has this tag; none for the letters that are no tag.
+// whose body has this tag; none for the letters that are no tag. Last is h's.
 fn go(raw: bool, words: Words) {
     let table: &[u8] = b"\
         nothing\n{.\
@@ -569,7 +597,8 @@ fn go(raw: bool, words: Words) {
         {.\
         RetailPriceImprovementIndicator\tstock={8}\tinterest_flag={B=RPIAvailableBuySide,S=RPIAvailableSellSide,A=RPIAvailableBothSides,\
             N=RPINoneAvailable,}\n{.\
-        {.\
+        DirectListing\tstock={8}\topen_eligibility={Y=true,N=false,}\tminimum_price={n}\tmaximum_price={n}\tnear_execution_price={n}\
+            \tnear_execution_time={n}\tlower_collar={n}\tupper_collar={n}\n{.\
         NonCrossTrade\treference={n}\tside={B=Buy,S=Sell,}\tshares={n}\tstock={8}\tprice={n}\tmatch_number={n}\n{.\
         CrossTrade\tshares={n}\tstock={8}\tcross_price={n}\tmatch_number={n}\tcross_type={O=Opening,C=Closing,H=IpoOrHalted,I=Intraday,\
             A=ExtendedTradingClose,}\n{.\
@@ -599,14 +628,15 @@ fn go(raw: bool, words: Words) {
         MwcbDeclineLevel\tlevel1={n}\tlevel2={n}\tlevel3={n}\n{.\
         Breach\tlevel={1=L1,2=L2,3=L3,}\n{.\
         OrderCancelled\treference={n}\tcancelled={n}\n{.\
-        RegShoRestriction\tstock={8}\taction={0=None,1=Intraday,2=Extant,}\n{.";
+        RegShoRestriction\tstock={8}\taction={0=None,1=Intraday,2=Extant,}\n{.\
+        OperationalHalt\tstock={8}\tmarket_code={Q=Nasdaq,B=Bx,X=Psx,}\taction={H=Halted,T=Resumed,}\n{.";
     let starts = templates::starts_of(table);
     let mut out = io::large_buffer();
     if raw {
         show_all(words, table, &starts, &mut out);
         return;
     }
-    if !case_all(table, &starts, &mut out) {
+    if !case_all(words, table, &starts, &mut out) {
         io::write_all(2, b"cases: a write failed\n");
     }
 }
@@ -618,13 +648,14 @@ pub fn show() {
         go(true, w);
         return;
     }
-    words::misuse(w, b"show: its word is status\n");
+    words::misuse(w, b"show: its words are later and status\n");
 }
 
-// The program `cases`.
+// The program `cases`, which has no words: it reads by the old edition, as the Rust does.
 pub fn cases() {
     let none = Words {
         quiet: false,
+        later: false,
         status: false,
         known: true,
     };

@@ -5,6 +5,7 @@ use mathlib.Core.Bool.{false, cond}
 use mathlib.Core.List.{List}
 use lib.Dec.{eqb}
 use lib.ListN.{length, take, drop}
+use Rattle.format.specs.declared.Reading.{Reading}
 use Rattle.records.specs.declared.Message.{Message as Record}
 use Rattle.reader.specs.Window.{windowOf}
 use Rattle.reader.specs.declared.Window.{Window}
@@ -37,5 +38,5 @@ nextBy s (Accepted m n) = cond (eqb (s .messages) 18446744073709551615) (refuses
 nextBy s Incomplete = record { state = s; answer = Wants }
 nextBy s (Refused n p) = marks s n p
 
-unfoldable pub nextOf : Stream → List ℕ → Step
-nextOf s b = sized (length b) (refuses s) (inBounds s (refuses s) (nextBy s (windowOf (windowAt s b))))
+unfoldable pub nextOf : Reading → Stream → List ℕ → Step
+nextOf rd s b = sized (length b) (refuses s) (inBounds s (refuses s) (nextBy s (windowOf rd (windowAt s b))))

@@ -3,6 +3,7 @@
 ghost use mathlib.Core.Path.{_≡_};
 ghost use Rattle.stream.specs.State.{freshState, refuses, marks, consumedOf};
 ghost use Rattle.stream.specs.Next.{nextOf};
+use format::Reading;
 use reader::Window;
 use records::Message;
 
@@ -79,10 +80,10 @@ pub fn marked(s: Stream, number: u8, place: usize) -> Step
     }
 }
 
-// Reads the window: a message, and the state past it; wants bytes; or a refusal, told once. It is the one place that reads a window, so that the
+// Reads the window by a reading: a message, and the state past it; wants bytes; or a refusal, told once. It is the one place that reads a window, so that the
 // whole reader is compiled into it.
-pub fn next_of(s: Stream, buf: &[u8]) -> Step
-    ensures { λ r. ⌜ r ≡ nextOf s (now (buf .entry)) ⌝ }
+pub fn next_of(s: Stream, buf: &[u8], reading: Reading) -> Step
+    ensures { λ r. ⌜ r ≡ nextOf reading s (now (buf .entry)) ⌝ }
 {
     let start = s.start;
     let end = s.end;
@@ -96,7 +97,7 @@ pub fn next_of(s: Stream, buf: &[u8]) -> Step
     if end > 8192 {
         return refused(s, 30);
     }
-    match reader::parse_message(&buf[start..end]) {
+    match reader::parse_message(&buf[start..end], reading) {
         Window::Message(message, used) => {
             if messages == 18446744073709551615 {
                 return refused(s, 33);

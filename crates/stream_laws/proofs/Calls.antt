@@ -10,6 +10,7 @@ use mir.Val.{hasKey}
 use denote.Enum.Declared.{tagOf, declared}
 use lib.Dec.{T}
 use lib.ListN.{length}
+use Rattle.format.specs.declared.Reading.{Reading}
 use Rattle.records.specs.declared.Message.{Message as Record}
 use Rattle.reader.specs.declared.Window.the-variants.{Message as Accepted, Incomplete}
 use Rattle.reader.specs.Window.{windowOf}
@@ -53,72 +54,72 @@ marks-stops s n p = test (λ (x : Step). stops (x .answer) ≡ true) (s .error) 
 -- ---- next
 
 -- it answers a message
-pub record Takes (s : Stream) (b : List ℕ) (m : Record) (x : Step) : Type 0 where
+pub record Takes (rd : Reading) (s : Stream) (b : List ℕ) (m : Record) (x : Step) : Type 0 where
   pub sound : Sound s
   pub whole : length b ≡ 8192
   pub used : ℕ
-  pub accepts : windowOf (windowAt s b) ≡ Accepted m used
+  pub accepts : windowOf rd (windowAt s b) ≡ Accepted m used
   pub counts : s .messages ≡ 18446744073709551615 → ⊥
   pub step : x ≡ taken s m used
 
-takes-step : (s : Stream) (b : List ℕ) (m : Record) (x : Step) → Next s b x → x .answer ≡ Message m → Takes s b m x
+takes-step : (rd : Reading) (s : Stream) (b : List ℕ) (m : Record) (x : Step) → Next rd s b x → x .answer ≡ Message m → Takes rd s b m x
 unfolding stops
-takes-step s b m _ (no-next _) e = let z : _≡_ {A = ℕ} 0 1 = cc in absurd (omega arith)
-takes-step s b m _ (message h l r n w f) e =
+takes-step rd s b m _ (no-next _) e = let z : _≡_ {A = ℕ} 0 1 = cc in absurd (omega arith)
+takes-step rd s b m _ (message h l r n w f) e =
     let same : r ≡ m = cc in
     record { sound = h; whole = l; used = n; accepts = w ∙ ap (λ (r : Record). Accepted r n) same; counts = f; step = ap (λ (r : Record). taken s r n) same }
-takes-step s b m _ (wants h l w) e = let z : _≡_ {A = ℕ} 0 1 = cc in absurd (omega arith)
-takes-step s b m _ (marked-next h l n p w) e = absurd (stops-not (marks-stops s n p) refl e)
+takes-step rd s b m _ (wants h l w) e = let z : _≡_ {A = ℕ} 0 1 = cc in absurd (omega arith)
+takes-step rd s b m _ (marked-next h l n p w) e = absurd (stops-not (marks-stops s n p) refl e)
 
-pub next-takes : (s : Stream) (b : List ℕ) (m : Record) → nextOf s b .answer ≡ Message m → Takes s b m (nextOf s b)
-next-takes s b m e = takes-step s b m (nextOf s b) (next-is s b) e
+pub next-takes : (rd : Reading) (s : Stream) (b : List ℕ) (m : Record) → nextOf rd s b .answer ≡ Message m → Takes rd s b m (nextOf rd s b)
+next-takes rd s b m e = takes-step rd s b m (nextOf rd s b) (next-is rd s b) e
 
 -- it wants bytes: the state stays
-pub record Waits (s : Stream) (b : List ℕ) (x : Step) : Type 0 where
+pub record Waits (rd : Reading) (s : Stream) (b : List ℕ) (x : Step) : Type 0 where
   pub sound : Sound s
   pub whole : length b ≡ 8192
-  pub short : windowOf (windowAt s b) ≡ Incomplete
+  pub short : windowOf rd (windowAt s b) ≡ Incomplete
   pub kept : x .state ≡ s
 
-waits-step : (s : Stream) (b : List ℕ) (x : Step) → Next s b x → x .answer ≡ Wants → Waits s b x
+waits-step : (rd : Reading) (s : Stream) (b : List ℕ) (x : Step) → Next rd s b x → x .answer ≡ Wants → Waits rd s b x
 unfolding stops
-waits-step s b _ (no-next _) e = let z : _≡_ {A = ℕ} 0 1 = cc in absurd (omega arith)
-waits-step s b _ (message h l m n w f) e = let z : _≡_ {A = ℕ} 0 1 = cc in absurd (omega arith)
-waits-step s b _ (wants h l w) e = record { sound = h; whole = l; short = w; kept = refl }
-waits-step s b _ (marked-next h l n p w) e = absurd (stops-not (marks-stops s n p) refl e)
+waits-step rd s b _ (no-next _) e = let z : _≡_ {A = ℕ} 0 1 = cc in absurd (omega arith)
+waits-step rd s b _ (message h l m n w f) e = let z : _≡_ {A = ℕ} 0 1 = cc in absurd (omega arith)
+waits-step rd s b _ (wants h l w) e = record { sound = h; whole = l; short = w; kept = refl }
+waits-step rd s b _ (marked-next h l n p w) e = absurd (stops-not (marks-stops s n p) refl e)
 
-pub next-waits : (s : Stream) (b : List ℕ) → nextOf s b .answer ≡ Wants → Waits s b (nextOf s b)
-next-waits s b e = waits-step s b (nextOf s b) (next-is s b) e
+pub next-waits : (rd : Reading) (s : Stream) (b : List ℕ) → nextOf rd s b .answer ≡ Wants → Waits rd s b (nextOf rd s b)
+next-waits rd s b e = waits-step rd s b (nextOf rd s b) (next-is rd s b) e
 
 -- a message raises one count, any other answer none
 pub record Taken (s t : Stream) : Type 0 where
   pub messages : t .messages ≡ s .messages + 1
   pub calls : t .«read_calls» ≡ s .«read_calls»
 
-pub next-message : (s : Stream) (b : List ℕ) (m : Record) → nextOf s b .answer ≡ Message m → Taken s (nextOf s b .state)
-next-message s b m e = rw (next-takes s b m e .step) (record { messages = refl; calls = refl })
+pub next-message : (rd : Reading) (s : Stream) (b : List ℕ) (m : Record) → nextOf rd s b .answer ≡ Message m → Taken s (nextOf rd s b .state)
+next-message rd s b m e = rw (next-takes rd s b m e .step) (record { messages = refl; calls = refl })
 
-other-step : (s : Stream) (b : List ℕ) (x : Step) → Next s b x → ((m : Record) → x .answer ≡ Message m → ⊥) → Kept s (x .state)
-other-step s b _ (no-next _) f = kept s
-other-step s b _ (message h l m n w g) f = absurd (f m refl)
-other-step s b _ (wants h l w) f = kept s
-other-step s b _ (marked-next h l n p w) f = marks-kept s n p
+other-step : (rd : Reading) (s : Stream) (b : List ℕ) (x : Step) → Next rd s b x → ((m : Record) → x .answer ≡ Message m → ⊥) → Kept s (x .state)
+other-step rd s b _ (no-next _) f = kept s
+other-step rd s b _ (message h l m n w g) f = absurd (f m refl)
+other-step rd s b _ (wants h l w) f = kept s
+other-step rd s b _ (marked-next h l n p w) f = marks-kept s n p
 
-pub next-other : (s : Stream) (b : List ℕ) → ((m : Record) → nextOf s b .answer ≡ Message m → ⊥) → Kept s (nextOf s b .state)
-next-other s b f = other-step s b (nextOf s b) (next-is s b) f
+pub next-other : (rd : Reading) (s : Stream) (b : List ℕ) → ((m : Record) → nextOf rd s b .answer ≡ Message m → ⊥) → Kept s (nextOf rd s b .state)
+next-other rd s b f = other-step rd s b (nextOf rd s b) (next-is rd s b) f
 
 -- where it answers neither a message nor that it wants bytes, it stops
-answer-step : (s : Stream) (b : List ℕ) (x : Step) → Next s b x → ((m : Record) → x .answer ≡ Message m → ⊥) → (x .answer ≡ Wants → ⊥)
+answer-step : (rd : Reading) (s : Stream) (b : List ℕ) (x : Step) → Next rd s b x → ((m : Record) → x .answer ≡ Message m → ⊥) → (x .answer ≡ Wants → ⊥)
     → stops (x .answer) ≡ true
 unfolding stops
-answer-step s b _ (no-next _) f g = refl
-answer-step s b _ (message h l m n w d) f g = absurd (f m refl)
-answer-step s b _ (wants h l w) f g = absurd (g refl)
-answer-step s b _ (marked-next h l n p w) f g = marks-stops s n p
+answer-step rd s b _ (no-next _) f g = refl
+answer-step rd s b _ (message h l m n w d) f g = absurd (f m refl)
+answer-step rd s b _ (wants h l w) f g = absurd (g refl)
+answer-step rd s b _ (marked-next h l n p w) f g = marks-stops s n p
 
-pub next-stops : (s : Stream) (b : List ℕ) → ((m : Record) → nextOf s b .answer ≡ Message m → ⊥) → (nextOf s b .answer ≡ Wants → ⊥)
-    → stops (nextOf s b .answer) ≡ true
-next-stops s b f g = answer-step s b (nextOf s b) (next-is s b) f g
+pub next-stops : (rd : Reading) (s : Stream) (b : List ℕ) → ((m : Record) → nextOf rd s b .answer ≡ Message m → ⊥) → (nextOf rd s b .answer ≡ Wants → ⊥)
+    → stops (nextOf rd s b .answer) ≡ true
+next-stops rd s b f g = answer-step rd s b (nextOf rd s b) (next-is rd s b) f g
 
 -- ---- make room
 

@@ -4,6 +4,7 @@ use Prim.Native.Nat.{ℕ, _≤_}
 use mathlib.Core.Path.{_≡_}
 use mathlib.Core.List.{List}
 use native.Mathlib.Omega.{arith}
+use Rattle.format.specs.declared.Reading.{Reading}
 use Rattle.laws.proofs.Numbers.{number-low}
 use Rattle.stream.specs.declared.Stream.{Stream}
 use Rattle.stream.specs.declared.Step.{Step}
@@ -22,13 +23,13 @@ Not30 x = numberOf (x .answer) ≡ 30 → ⊥
 marks-not : (s : Stream) (n p : ℕ) → n ≤ 11 → Not30 (marks s n p)
 marks-not s n p h = test Not30 (s .error) (λ _ e. omega arith) (λ _ e. omega arith)
 
-next-not : (s : Stream) (b : List ℕ) (x : Step) → Next s b x → Sound s → Not30 x
-next-not s b _ (no-next (31-next _)) h e = omega arith
-next-not s b _ (no-next (30-next f)) h e = f h
-next-not s b _ (no-next (33-next _)) h e = omega arith
-next-not s b _ (message g l m n w f) h e = omega arith
-next-not s b _ (wants g l w) h e = omega arith
-next-not s b _ (marked-next g l n p w) h e = marks-not s n p (omega (arith, number-low (windowAt s b) n p w)) e
+next-not : (rd : Reading) (s : Stream) (b : List ℕ) (x : Step) → Next rd s b x → Sound s → Not30 x
+next-not rd s b _ (no-next (31-next _)) h e = omega arith
+next-not rd s b _ (no-next (30-next f)) h e = f h
+next-not rd s b _ (no-next (33-next _)) h e = omega arith
+next-not rd s b _ (message g l m n w f) h e = omega arith
+next-not rd s b _ (wants g l w) h e = omega arith
+next-not rd s b _ (marked-next g l n p w) h e = marks-not s n p (omega (arith, number-low rd (windowAt s b) n p w)) e
 
 room-not : (s : Stream) (len : ℕ) (x : Step) → Room s len x → Sound s → Not30 x
 room-not s len _ (no-room (31-room _)) h e = omega arith
@@ -51,10 +52,10 @@ failed-not s _ (30-failed f) h e = f h
 failed-not s _ (marked-failed g) h e = marks-not s 11 0 (omega arith) e
 
 pub never-30 : {s : Stream} {i j k : ℕ} → Reached s i j k
-    → ((b : List ℕ) → Not30 (nextOf s b)) × ((len : ℕ) → Not30 (roomOf s len)) × ((n : ℕ) → Not30 (toldOf s n)) × Not30 (failedOf s)
+    → ((rd : Reading) (b : List ℕ) → Not30 (nextOf rd s b)) × ((len : ℕ) → Not30 (roomOf s len)) × ((n : ℕ) → Not30 (toldOf s n)) × Not30 (failedOf s)
 never-30 {s} p =
     let h : Sound s = known p .sound in (
-      λ b. next-not s b (nextOf s b) (next-is s b) h,
+      λ rd b. next-not rd s b (nextOf rd s b) (next-is rd s b) h,
       λ len. room-not s len (roomOf s len) (room-is s len) h,
       λ n. told-not s n (toldOf s n) (told-is s n) h,
       failed-not s (failedOf s) (failed-is s) h,

@@ -4,6 +4,7 @@ use Prim.Native.Nat.{ℕ, _+_, _-_, _≤_}
 use mathlib.Core.Path.{_≡_, refl, ap, _∙_}
 use mathlib.Core.List.{List}
 use native.Mathlib.Omega.{arith}
+use Rattle.format.specs.declared.Reading.{Reading}
 use Rattle.records.specs.declared.Message.{Message as Record}
 use Rattle.stream.specs.declared.Stream.{Stream}
 use Rattle.stream.specs.declared.Answer.the-variants.{Message, Ready}
@@ -42,10 +43,10 @@ kept-known p q = record {
   messages-fit = q .messages-fit;
 }
 
-taken-known : (s : Stream) (b : List ℕ) (m : Record) {i j k : ℕ} → nextOf s b .answer ≡ Message m → Known s i j k → Known (nextOf s b .state) i j (k + 1)
-taken-known s b m {i} {j} {k} e q =
-    let t = next-takes s b m e in
-    let u = within s b m (t .used) (t .accepts) in
+taken-known : (rd : Reading) (s : Stream) (b : List ℕ) (m : Record) {i j k : ℕ} → nextOf rd s b .answer ≡ Message m → Known s i j k → Known (nextOf rd s b .state) i j (k + 1)
+taken-known rd s b m {i} {j} {k} e q =
+    let t = next-takes rd s b m e in
+    let u = within rd s b m (t .used) (t .accepts) in
     rw (t .step) (record {
       sound = record { ordered = omega (arith, t .sound .ordered, u); inside = t .sound .inside };
       bytes = q .bytes;
@@ -93,8 +94,8 @@ known fresh = record {
   calls-fit = omega arith;
   messages-fit = omega arith;
 }
-known (message {s = s} p b m e) = taken-known s b m e (known p)
-known (other {s = s} p b f) = kept-known (next-other s b f) (known p)
+known (message {s = s} p rd b m e) = taken-known rd s b m e (known p)
+known (other {s = s} p rd b f) = kept-known (next-other rd s b f) (known p)
 known (room {s = s} p len e) = roomy-known s len e (known p)
 known (no-room {s = s} p len f) = rw (room-refused s len f .0) (known p)
 known (told {s = s} p n e) = fed-known s n e (known p)

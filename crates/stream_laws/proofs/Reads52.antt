@@ -7,6 +7,7 @@ use mathlib.Core.List.{List}
 use mathlib.Core.Logic.{⊎-elim}
 use native.Mathlib.Omega.{arith}
 use lib.ListN.{length, length-take, length-drop}
+use Rattle.format.specs.declared.Reading.{Reading}
 use Rattle.format.proofs.Tests.{le-or-lt}
 use Rattle.laws.proofs.Answers.{enough}
 use Rattle.stream.specs.declared.Stream.{Stream}
@@ -21,12 +22,12 @@ use Rattle.stream_laws.proofs.Calls.{Kept, next-waits, told-came, told-
 use Rattle.stream_laws.proofs.Reach.{kept-sound}
 
 -- a window that wants bytes has at most 51
-pub short : (s : Stream) (b : List ℕ) → nextOf s b .answer ≡ Wants → s .end - s .start ≤ 51
-short s b e =
-    let q = next-waits s b e in
+pub short : (rd : Reading) (s : Stream) (b : List ℕ) → nextOf rd s b .answer ≡ Wants → s .end - s .start ≤ 51
+short rd s b e =
+    let q = next-waits rd s b e in
     let m : length (windowAt s b) ≡ min (s .end - s .start) (length b - s .start) = simp (length-take, length-drop) in
     ⊎-elim
-    (λ g. absurd (enough (windowAt s b) (omega (arith, q .sound .ordered, q .sound .inside, q .whole)) (q .short)))
+    (λ g. absurd (enough rd (windowAt s b) (omega (arith, q .sound .ordered, q .sound .inside, q .whole)) (q .short)))
     (λ g. omega arith)
     (le-or-lt 52 (s .end - s .start))
 
@@ -68,7 +69,7 @@ long (start h) = record { sound = h; reads = omega arith; few = λ z. absurd (le
 long (room {s = s} p len) = room-long s len (roomOf s len) (room-is s len) (long p)
 long (empty {s = s} p n f) = kept-long (told-kept s n f) (long p)
 long (failed {s = s} p) = kept-long (failed-stops s .0) (long p)
-long (read {s = s} p n e b w) = read-long s n e (long p) (short (toldOf s n .state) b w)
+long (read {s = s} p n e rd b w) = read-long s n e (long p) (short rd (toldOf s n .state) b w)
 
 -- with the read that ends them, at most 52
 pub at-most-52 : {s : Stream} {k : ℕ} → Wanting s k → k + 1 ≤ 52

@@ -6,6 +6,7 @@ use mathlib.Core.Bool.{Bool, true, false, cond}
 use mathlib.Core.List.{List}
 use lib.Dec.{ltb, leb, eqb}
 use lib.ListN.{length}
+use Rattle.format.specs.declared.Reading.{Reading}
 use Rattle.records.proofs.Back.{body-back}
 use Rattle.reader.specs.declared.Window.{Window}
 use Rattle.reader.specs.declared.Window.the-variants.{Message as Accepted, Incomplete, Refused as Bad}
@@ -52,11 +53,11 @@ by-said s (Accepted m n) = pushed said (eqb (s .messages) 18446744073709551615) 
 by-said s Incomplete = refl
 by-said s (Bad n p) = marks-said s n p
 
--- next answers by what the window means
-pub next-means : (s : Stream) (b : List ℕ) → replyM (nextOf s b .answer) ≡ nextReply s (length b) (windowM (windowOf (windowAt s b)))
+-- next answers by what the window means, by a reading
+pub next-means : (rd : Reading) (s : Stream) (b : List ℕ) → replyM (nextOf rd s b .answer) ≡ nextReply s (length b) (windowM (windowOf rd (windowAt s b)))
 unfolding nextOf
-next-means s b =
-    let w = windowOf (windowAt s b) in
+next-means rd s b =
+    let w = windowOf rd (windowAt s b) in
     sized-said s (length b) (inBounds s (refuses s) (nextBy s w))
     ∙ ap (sized (length b) fault) (bounds-said s (nextBy s w) ∙ ap (inBounds s fault) (by-said s w))
 

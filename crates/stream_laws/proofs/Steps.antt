@@ -8,6 +8,7 @@ use native.Mathlib.Omega.{arith}
 use borrow.Author.Tests.{ltb-true, ltb-false, leb-true, leb-false, eqb-true, eqb-false}
 use lib.Dec.{ltb, leb, eqb}
 use lib.ListN.{length}
+use Rattle.format.specs.declared.Reading.{Reading}
 use Rattle.records.specs.declared.Message.{Message as Record}
 use Rattle.reader.specs.declared.Window.{Window}
 use Rattle.reader.specs.declared.Window.the-variants.{Message as Accepted, Incomplete, Refused as Bad}
@@ -47,26 +48,26 @@ pub data NoNext (s : Stream) (b : List ℕ) : ℕ → Type 0 where
   30-next : (Sound s → ⊥) → NoNext s b 30
   33-next : 18446744073709551615 ≤ s .messages → NoNext s b 33
 
-pub data Next (s : Stream) (b : List ℕ) : Step → Type 0 where
-  no-next : {n : ℕ} → NoNext s b n → Next s b (refuses s n)
-  message : Sound s → length b ≡ 8192 → (m : Record) (n : ℕ) → windowOf (windowAt s b) ≡ Accepted m n → (s .messages ≡ 18446744073709551615 → ⊥)
-      → Next s b (taken s m n)
-  wants : Sound s → length b ≡ 8192 → windowOf (windowAt s b) ≡ Incomplete → Next s b (record { state = s; answer = Wants })
-  marked-next : Sound s → length b ≡ 8192 → (n p : ℕ) → windowOf (windowAt s b) ≡ Bad n p → Next s b (marks s n p)
+pub data Next (rd : Reading) (s : Stream) (b : List ℕ) : Step → Type 0 where
+  no-next : {n : ℕ} → NoNext s b n → Next rd s b (refuses s n)
+  message : Sound s → length b ≡ 8192 → (m : Record) (n : ℕ) → windowOf rd (windowAt s b) ≡ Accepted m n → (s .messages ≡ 18446744073709551615 → ⊥)
+      → Next rd s b (taken s m n)
+  wants : Sound s → length b ≡ 8192 → windowOf rd (windowAt s b) ≡ Incomplete → Next rd s b (record { state = s; answer = Wants })
+  marked-next : Sound s → length b ≡ 8192 → (n p : ℕ) → windowOf rd (windowAt s b) ≡ Bad n p → Next rd s b (marks s n p)
 
-next-by : (s : Stream) (b : List ℕ) (w : Window) → Sound s → length b ≡ 8192 → windowOf (windowAt s b) ≡ w → Next s b (nextBy s w)
-next-by s b (Accepted m n) h l e =
-    test (Next s b) (eqb (s .messages) 18446744073709551615)
+next-by : (rd : Reading) (s : Stream) (b : List ℕ) (w : Window) → Sound s → length b ≡ 8192 → windowOf rd (windowAt s b) ≡ w → Next rd s b (nextBy s w)
+next-by rd s b (Accepted m n) h l e =
+    test (Next rd s b) (eqb (s .messages) 18446744073709551615)
     (λ a. no-next (33-next (omega (arith, eqb-true (s .messages) 18446744073709551615 a))))
     (λ a. message h l m n e (eqb-false _ _ a))
-next-by s b Incomplete h l e = wants h l e
-next-by s b (Bad n p) h l e = marked-next h l n p e
+next-by rd s b Incomplete h l e = wants h l e
+next-by rd s b (Bad n p) h l e = marked-next h l n p e
 
-pub next-is : (s : Stream) (b : List ℕ) → Next s b (nextOf s b)
+pub next-is : (rd : Reading) (s : Stream) (b : List ℕ) → Next rd s b (nextOf rd s b)
 unfolding nextOf
-next-is s b =
-    sizes (Next s b) s (length b) (λ f. no-next (31-next f))
-    (λ l. checked (Next s b) s (λ f. no-next (30-next f)) (λ h. next-by s b (windowOf (windowAt s b)) h l refl))
+next-is rd s b =
+    sizes (Next rd s b) s (length b) (λ f. no-next (31-next f))
+    (λ l. checked (Next rd s b) s (λ f. no-next (30-next f)) (λ h. next-by rd s b (windowOf rd (windowAt s b)) h l refl))
 
 -- make room: the refusals, and the window moved or left where it is
 pub data NoRoom (s : Stream) (len : ℕ) : ℕ → Type 0 where

@@ -7,17 +7,19 @@
 // from the tables when the program is compiled, and only a byte that is no code of its set is looked up. The tables stay the one source.
 ghost use mathlib.Core.Path.{_≡_};
 ghost use mathlib.Core.Bool.{cond};
-ghost use Rattle.format.specs.Codes.{side, yesNo, tradingState, direction, imbalanceCross, qualifier, makerMode, participantState, interest, cross, category, status, class, authenticity, flag, tier, etpFlag, event, level, action};
+ghost use Rattle.format.specs.Codes.{side, yesNo, tradingState, direction, imbalanceCross, qualifier, makerMode, participantState, interest, cross, category, status, class, authenticity, flag, tier, etpFlag, event, level, action, market, halt};
 ghost use Rattle.format.specs.Layout.{member, code, field, placed, fine, wrong};
-ghost use Rattle.format.specs.Rows.{sizeOf};
+ghost use Rattle.format.specs.Rows.{sizeBy};
 ghost use Rattle.format.specs.Meaning.{num8M};
 ghost use Rattle.tables.specs.Masks.{maskOf, Legal};
 
 mod masks;
 mod sizes;
 
+use format::Edition;
 use format::Fault;
 use format::Num8;
+use format::Reading;
 use masks::MASKS;
 use sizes::SIZES;
 
@@ -57,6 +59,9 @@ pub const END_L: usize = SIZES[b'L' as usize] as usize + 2;
 // Behind N, a retail price improvement indicator.
 pub const END_N: usize = SIZES[b'N' as usize] as usize + 2;
 
+// Behind O, a direct listing.
+pub const END_O: usize = SIZES[b'O' as usize] as usize + 2;
+
 // Behind P, a trade that is no cross.
 pub const END_P: usize = SIZES[b'P' as usize] as usize + 2;
 
@@ -84,11 +89,22 @@ pub const END_X: usize = SIZES[b'X' as usize] as usize + 2;
 // Behind Y, a Reg SHO restriction.
 pub const END_Y: usize = SIZES[b'Y' as usize] as usize + 2;
 
-// A tag's size, counted from the tag on; zero where no tag is.
-pub fn size_of_tag(tag: u8) -> u8
-    ensures { λ r. ⌜ r ≡ sizeOf tag ⌝ }
+// Behind h, an operational halt.
+pub const END_OPERATIONAL_HALT: usize = SIZES[b'h' as usize] as usize + 2;
+
+// A tag's size by a reading, counted from the tag on; zero where the reading has no such tag. One table has the sizes of both editions: that the old
+// one lacks h and O is decided here.
+pub fn size_of_tag(tag: u8, reading: Reading) -> u8
+    ensures { λ r. ⌜ r ≡ sizeBy reading tag ⌝ }
 {
-    SIZES[tag as usize]
+    let edition = reading.edition;
+    match edition {
+        Edition::Later => SIZES[tag as usize],
+        Edition::Old => match tag {
+            b'O' | b'h' => 0,
+            _ => SIZES[tag as usize],
+        },
+    }
 }
 
 // In which sets a byte is legal.
@@ -676,4 +692,52 @@ pub fn action_at(s: &[u8], place: u8) -> Num8
         return f;
     };
     judged(b, place, is_action(b))
+}
+
+const MARKET_ARMS: bool = MASKS[b'Q' as usize]
+    & MASKS[b'B' as usize]
+    & MASKS[b'X' as usize]
+    & masks::MARKET
+    != 0;
+
+fn is_market(b: u8) -> bool
+    ensures { λ r. ⌜ r ≡ member b market ⌝ }
+{
+    match b {
+        b'Q' | b'B' | b'X' => MARKET_ARMS,
+        _ => legal(b, masks::MARKET),
+    }
+}
+
+// The market code at a place: Q, B or X; else 2.
+pub fn market_at(s: &[u8], place: u8) -> Num8
+    ensures { λ r. ⌜ num8M r ≡ field (code market) (now (s .entry)) place ⌝ }
+{
+    let f = format::be_u8(s, place);
+    let Num8::Got(b) = f else {
+        return f;
+    };
+    judged(b, place, is_market(b))
+}
+
+const HALT_ARMS: bool = MASKS[b'H' as usize] & MASKS[b'T' as usize] & masks::HALT != 0;
+
+fn is_halt(b: u8) -> bool
+    ensures { λ r. ⌜ r ≡ member b halt ⌝ }
+{
+    match b {
+        b'H' | b'T' => HALT_ARMS,
+        _ => legal(b, masks::HALT),
+    }
+}
+
+// The action of an operational halt at a place: H or T; else 2.
+pub fn halt_at(s: &[u8], place: u8) -> Num8
+    ensures { λ r. ⌜ num8M r ≡ field (code halt) (now (s .entry)) place ⌝ }
+{
+    let f = format::be_u8(s, place);
+    let Num8::Got(b) = f else {
+        return f;
+    };
+    judged(b, place, is_halt(b))
 }

@@ -6,6 +6,7 @@ use mathlib.Core.Bool.{true}
 use mathlib.Core.List.{List, [], _∷_}
 use native.Mathlib.Omega.{arith}
 use lib.ListN.{length, getD, set, length-set}
+use Rattle.format.specs.declared.Reading.{Reading}
 use Rattle.records.specs.declared.Message.{Message as Record}
 use Rattle.stream.specs.declared.Stream.{Stream}
 use Rattle.stream.specs.declared.Step.{Step}
@@ -13,7 +14,7 @@ use Rattle.stream.specs.declared.Answer.the-variants.{Message, Wants}
 use Rattle.stream.specs.Next.{nextOf}
 use Rattle.stream_laws.specs.Ends.{stops}
 use Rattle.stream_laws.proofs.Calls.{next-message, next-other, next-stops}
-use Rattle.tallying.specs.Counts.{sum, Counters, raised, Taken, more, none, Skimmed, Drained}
+use Rattle.tallying.specs.Counts.{sum, Counters, raised, Taken, more, none, Counted, Drained}
 
 -- a counter raised by one raises the sum by one
 sum-raised : (c : List ℕ) (k : ℕ) → k < length c → sum (set c k (getD c k 0 + 1)) ≡ sum c + 1
@@ -40,25 +41,25 @@ raises c m n k h = record {
 }
 
 -- a message raises the count
-pub rises : (b : List ℕ) (s : Stream) (r : Step) (m : Record) → r ≡ nextOf s b → r .answer ≡ Message m → r .state .messages ≡ s .messages + 1
-rises b s r m e a =
+pub rises : (rd : Reading) (b : List ℕ) (s : Stream) (r : Step) (m : Record) → r ≡ nextOf rd s b → r .answer ≡ Message m → r .state .messages ≡ s .messages + 1
+rises rd b s r m e a =
     ap (λ (x : Step). x .state .messages) e
-    ∙ next-message s b m (ap (λ (x : Step). x .answer) (sym e) ∙ a) .messages
+    ∙ next-message rd s b m (ap (λ (x : Step). x .answer) (sym e) ∙ a) .messages
 
 -- the state and the counters behind it
-pub again : {b : List ℕ} {s₀ : Stream} {c₀ : List ℕ} {s : Stream} {c : List ℕ} {r : Step} {m : Record} → Skimmed b s₀ c₀ s c → r ≡ nextOf s b
-    → r .answer ≡ Message m → m .tag < 256 → Skimmed b s₀ c₀ (r .state) (raised c m)
-again {b} {s₀} {c₀} {s} {c} {r} {m} p e a h =
+pub again : {rd : Reading} {b : List ℕ} {s₀ : Stream} {c₀ : List ℕ} {s : Stream} {c : List ℕ} {r : Step} {m : Record} → Counted rd b s₀ c₀ s c → r ≡ nextOf rd s b
+    → r .answer ≡ Message m → m .tag < 256 → Counted rd b s₀ c₀ (r .state) (raised c m)
+again {rd} {b} {s₀} {c₀} {s} {c} {r} {m} p e a h =
     record {
-      taken = subst (λ (x : Step). Taken b s₀ c₀ (x .state) (raised c m)) (sym e) (more (p .taken) m (ap (λ (x : Step). x .answer) (sym e) ∙ a));
-      counted = rw (rises b s r m e a) (raises c m (s .messages) (p .counted) h);
+      taken = subst (λ (x : Step). Taken rd b s₀ c₀ (x .state) (raised c m)) (sym e) (more (p .taken) m (ap (λ (x : Step). x .answer) (sym e) ∙ a));
+      counted = rw (rises rd b s r m e a) (raises c m (s .messages) (p .counted) h);
     }
 
 -- an answer that is no message leaves the count
-pub counts : (b : List ℕ) (s : Stream) (c : List ℕ) (r : Step) → Counters c (s .messages) → r ≡ nextOf s b → ((m : Record) → r .answer ≡ Message m → ⊥)
-    → Counters c (r .state .messages)
-counts b s c r k e f =
-    let o = next-other s b (λ m a. f m (ap (λ (x : Step). x .answer) e ∙ a)) in
+pub counts : (rd : Reading) (b : List ℕ) (s : Stream) (c : List ℕ) (r : Step) → Counters c (s .messages) → r ≡ nextOf rd s b
+    → ((m : Record) → r .answer ≡ Message m → ⊥) → Counters c (r .state .messages)
+counts rd b s c r k e f =
+    let o = next-other rd s b (λ m a. f m (ap (λ (x : Step). x .answer) e ∙ a)) in
     rw (ap (λ (x : Step). x .state .messages) e ∙ o .messages) k
 
 -- counters of a count that stayed
@@ -67,20 +68,22 @@ counters-on k e = rw e k
 
 -- ---- a drained window: no read, and an answer that wants bytes or stops
 
-taken-calls : {b : List ℕ} {s : Stream} {c : List ℕ} {t : Stream} {d : List ℕ} → Taken b s c t d → t .«read_calls» ≡ s .«read_calls»
+taken-calls : {rd : Reading} {b : List ℕ} {s : Stream} {c : List ℕ} {t : Stream} {d : List ℕ} → Taken rd b s c t d → t .«read_calls» ≡ s .«read_calls»
 taken-calls none = refl
-taken-calls {b = b} (more {t = t} p m e) = next-message t b m e .calls ∙ taken-calls p
+taken-calls {rd = rd} {b = b} (more {t = t} p m e) = next-message rd t b m e .calls ∙ taken-calls p
 
-no-more : {b : List ℕ} {s : Stream} {c : List ℕ} {r : Step} {d : List ℕ} (p : Drained b s c r d) → (m : Record) → nextOf (p .last) b .answer ≡ Message m → ⊥
+no-more : {rd : Reading} {b : List ℕ} {s : Stream} {c : List ℕ} {r : Step} {d : List ℕ} (p : Drained rd b s c r d) → (m : Record)
+    → nextOf rd (p .last) b .answer ≡ Message m → ⊥
 no-more p m a = p .stops m (ap (λ (x : Step). x .answer) (p .step) ∙ a)
 
-pub drained-calls : {b : List ℕ} {s : Stream} {c : List ℕ} {r : Step} {d : List ℕ} → Drained b s c r d → r .state .«read_calls» ≡ s .«read_calls»
-drained-calls {b = b} p =
+pub drained-calls : {rd : Reading} {b : List ℕ} {s : Stream} {c : List ℕ} {r : Step} {d : List ℕ} → Drained rd b s c r d → r .state .«read_calls» ≡ s .«read_calls»
+drained-calls {rd = rd} {b = b} p =
     ap (λ (x : Step). x .state .«read_calls») (p .step)
-    ∙ next-other (p .last) b (no-more p) .calls
+    ∙ next-other rd (p .last) b (no-more p) .calls
     ∙ taken-calls (p .taken)
 
-pub drained-stops : {b : List ℕ} {s : Stream} {c : List ℕ} {r : Step} {d : List ℕ} → Drained b s c r d → (r .answer ≡ Wants → ⊥) → stops (r .answer) ≡ true
-drained-stops {b = b} p f =
+pub drained-stops : {rd : Reading} {b : List ℕ} {s : Stream} {c : List ℕ} {r : Step} {d : List ℕ} → Drained rd b s c r d → (r .answer ≡ Wants → ⊥)
+    → stops (r .answer) ≡ true
+drained-stops {rd = rd} {b = b} p f =
     ap (λ (x : Step). stops (x .answer)) (p .step)
-    ∙ next-stops (p .last) b (no-more p) (λ a. f (ap (λ (x : Step). x .answer) (p .step) ∙ a))
+    ∙ next-stops rd (p .last) b (no-more p) (λ a. f (ap (λ (x : Step). x .answer) (p .step) ∙ a))

@@ -4,6 +4,7 @@ use Prim.Native.Nat.{ℕ, _+_}
 use mathlib.Core.Path.{_≡_}
 use mathlib.Core.List.{List, [], _∷_}
 use lib.ListN.{length, getD, set}
+use Rattle.format.specs.declared.Reading.{Reading}
 use Rattle.records.specs.declared.Message.{Message as Record}
 use Rattle.stream.specs.declared.Stream.{Stream}
 use Rattle.stream.specs.declared.Step.{Step}
@@ -24,19 +25,24 @@ abbrev pub raised : List ℕ → Record → List ℕ
 raised c m = set c (m .tag) (getD c (m .tag) 0 + 1)
 
 -- messages taken one behind the other, from state s and counters c on, and counted
-pub data Taken (b : List ℕ) (s : Stream) (c : List ℕ) : Stream → List ℕ → Type 0 where
-  none : Taken b s c s c
-  more : {t : Stream} {d : List ℕ} → Taken b s c t d → (m : Record) → nextOf t b .answer ≡ Message m → Taken b s c (nextOf t b .state) (raised d m)
+pub data Taken (rd : Reading) (b : List ℕ) (s : Stream) (c : List ℕ) : Stream → List ℕ → Type 0 where
+  none : Taken rd b s c s c
+  more : {t : Stream} {d : List ℕ} → Taken rd b s c t d → (m : Record) → nextOf rd t b .answer ≡ Message m → Taken rd b s c (nextOf rd t b .state) (raised d m)
 
 -- some of the window's messages: r is the state behind them, and the counters have counted them
+pub record Counted (rd : Reading) (b : List ℕ) (s : Stream) (c : List ℕ) (r : Stream) (d : List ℕ) : Type 0 where
+  pub taken : Taken rd b s c r d
+  pub counted : Counters d (r .messages)
+
+-- the same under every reading
 pub record Skimmed (b : List ℕ) (s : Stream) (c : List ℕ) (r : Stream) (d : List ℕ) : Type 0 where
-  pub taken : Taken b s c r d
+  pub taken : (rd : Reading) → Taken rd b s c r d
   pub counted : Counters d (r .messages)
 
 -- all that the window has: r is the first answer that is not a message, and the counters have counted its messages
-pub record Drained (b : List ℕ) (s : Stream) (c : List ℕ) (r : Step) (d : List ℕ) : Type 0 where
+pub record Drained (rd : Reading) (b : List ℕ) (s : Stream) (c : List ℕ) (r : Step) (d : List ℕ) : Type 0 where
   pub last : Stream
-  pub taken : Taken b s c last d
-  pub step : r ≡ nextOf last b
+  pub taken : Taken rd b s c last d
+  pub step : r ≡ nextOf rd last b
   pub stops : (m : Record) → r .answer ≡ Message m → ⊥
   pub counted : Counters d (r .state .messages)

@@ -4,7 +4,7 @@ ghost use mathlib.Core.Path.{_≡_};
 ghost use Prim.Native.Nat.{_+_, _≤_};
 ghost use lib.ListN.{length};
 ghost use Rattle.text.specs.Decimal.{Wrote};
-ghost use Rattle.words.specs.Words.{endingBy};
+ghost use Rattle.words.specs.Words.{readingOf, endingBy};
 ghost use Rattle.stream.specs.Meaning.{numberOf};
 ghost use Rattle.tally_lines.specs.Lines.{tallyOf};
 ghost use Rattle.plain.specs.Plain.{Table};
@@ -15,6 +15,7 @@ ghost use Rattle.tallying.specs.Reads.{Tallied, Finished};
 mod printed;
 
 use feeding::Turn;
+use format::Reading;
 pub use printed::Tally;
 use stream::Answer;
 use stream::Step;
@@ -22,7 +23,8 @@ use stream::Stream;
 use words::Ending;
 use words::Words;
 
-// Takes and counts the plain messages in front, with no jump by tag or side: such jumps are most of the time that `next_of` takes.
+// Takes and counts the plain messages in front, which every reading takes, with no jump by tag or side: such jumps are most of the time that `next_of`
+// takes.
 fn skim(s0: Stream, b: &[u8], rows: &[u64; 256], count: &mut [u64]) -> Stream
     requires { ⌜ Counters (now count) (s0 .messages) × (length (now b) ≡ 8192) × Table (now rows) ⌝ }
     ensures { λ r. ⌜ Skimmed (now (b .entry)) s0 (now (count .entry)) r (now (count .exit)) ⌝ }
@@ -105,14 +107,14 @@ fn counter(s: Step) -> u8
 
 // Takes and counts the window's messages, the plain ones by `skim`, to the first answer that is none. The loop has this one way out, so that it
 // stays small.
-fn drain(s0: Stream, b: &[u8], rows: &[u64; 256], count: &mut [u64]) -> Step
+fn drain(s0: Stream, b: &[u8], rows: &[u64; 256], count: &mut [u64], reading: Reading) -> Step
     requires { ⌜ Counters (now count) (s0 .messages) × (length (now b) ≡ 8192) × Table (now rows) ⌝ }
-    ensures { λ r. ⌜ Drained (now (b .entry)) s0 (now (count .entry)) r (now (count .exit)) ⌝ }
+    ensures { λ r. ⌜ Drained reading (now (b .entry)) s0 (now (count .entry)) r (now (count .exit)) ⌝ }
 {
     let mut s = s0;
     loop {
         let t = skim(s, b, rows, count);
-        let step = stream::next_of(t, b);
+        let step = stream::next_of(t, b, reading);
         if !message(step) {
             return step;
         }
@@ -122,17 +124,17 @@ fn drain(s0: Stream, b: &[u8], rows: &[u64; 256], count: &mut [u64]) -> Step
     }
 }
 
-// Drains the window and reads, to the first answer that stops.
-fn run(count: &mut [u64]) -> Turn
+// Drains the window by a reading and reads, to the first answer that stops.
+fn run(count: &mut [u64], reading: Reading) -> Turn
     requires { ⌜ Counters (now count) 0 ⌝ }
-    ensures { λ r. ⌜ Tallied (now (count .entry)) r (now (count .exit)) ⌝ }
+    ensures { λ r. ⌜ Tallied reading (now (count .entry)) r (now (count .exit)) ⌝ }
 {
     let mut buf = [0u8; 8192];
     let rows = plain::rows();
     let mut s = stream::fresh();
     let mut b = standard::unread();
     loop {
-        let step = drain(s, &buf, &rows, count);
+        let step = drain(s, &buf, &rows, count, reading);
         if !wants(step) {
             return Turn { step, brought: b };
         }
@@ -163,18 +165,20 @@ fn report(words: Words, last: Step, number: u8, t: Tally, o: Ending)
     words::say(words, o);
 }
 
-// Runs the stream, and prints the counts. The answer tells of the reads and of the write. It is small: a larger one, with the last message, slows the loop.
+// Runs the stream by the reading that the words ask for, and prints the counts. The answer tells of the reads and of the write. It is small: a larger
+// one, with the last message, slows the loop.
 pub fn print_tally(words: Words) -> Tally
-    ensures { λ r. ⌜ Finished r ⌝ }
+    ensures { λ r. ⌜ Finished (readingOf words) r ⌝ }
 {
+    let reading = words::reading(words);
     let mut count = [0u64; 256];
     let mut out = [0u8; 8192];
-    let last = run(&mut count);
+    let last = run(&mut count, reading);
     let step = last.step;
     let state = step.state;
     let answer = step.answer;
     let n = put_tally(&count, state.messages, answer, &mut out);
-    let tally = printed::write(&count, last, &out[..n]);
+    let tally = printed::write(&count, last, &out[..n], reading);
     let number = tally_lines::number_of(answer);
     let taken = printed::taken(tally);
     report(words, step, number, tally, words::ending_by(number, taken));
@@ -188,5 +192,5 @@ pub fn start() {
         print_tally(w);
         return;
     }
-    words::misuse(w, b"tally: its word is status\n");
+    words::misuse(w, b"tally: its words are later and status\n");
 }

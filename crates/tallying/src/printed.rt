@@ -3,6 +3,7 @@ ghost use mathlib.Core.Path.{_≡_};
 ghost use lib.ListN.{length};
 ghost use Rattle.tallying.specs.Reads.{Printed};
 use feeding::Turn;
+use format::Reading;
 use standard::Brought;
 use standard::Written;
 
@@ -12,9 +13,9 @@ pub struct Tally {
     written: Written,
 }
 
-// Writes the lines of the counters that a run left.
-pub(super) fn write(count: &[u64], last: Turn, text: &[u8]) -> Tally
-    requires { ⌜ Printed (now count) last (now text) ⌝ }
+// Writes the lines of the counters that a run by a reading left.
+pub(super) fn write(count: &[u64], last: Turn, text: &[u8], reading: Reading) -> Tally
+    requires { ⌜ Printed reading (now count) last (now text) ⌝ }
     ensures { λ r. ⌜ r .brought ≡ last .brought ⌝ }
     ensures { λ r. ⌜ r .written .bytes ≡ length (now (text .entry)) ⌝ }
 {

@@ -10,13 +10,13 @@ use lib.ListN.{length, getD, drop}
 use lib.Seq.{getD-drop}
 use borrow.Author.Tests.{eqb-true}
 use Rattle.format.specs.Ascii.{'I'}
-use Rattle.format.specs.Codes.{side, yesNo, tradingState, direction, imbalanceCross, qualifier, makerMode, participantState, interest, cross, category, status, class, authenticity, flag, tier, event, level, action, etpFlag, subtypes}
+use Rattle.format.specs.Codes.{side, yesNo, tradingState, direction, imbalanceCross, qualifier, makerMode, participantState, interest, cross, category, status, class, authenticity, flag, tier, event, level, action, market, halt, etpFlag, subtypes}
 use Rattle.format.specs.Layout.{member}
 use Rattle.format.proofs.Tests.{and-split}
 use Rattle.pen.specs.Encode.{layout}
-use Rattle.codes.specs.Names.{nameOf, eventByte, eventNames, eventFrom, categoryByte, categoryNames, categoryFrom, statusByte, statusNames, statusFrom, classByte, classNames, classFrom, tierByte, tierNames, tierFrom, makerModeByte, makerModeNames, makerModeFrom, participantStateByte, participantStateNames, participantStateFrom, actionByte, actionNames, actionFrom, tradingStateByte, tradingStateNames, tradingStateFrom, sideByte, sideNames, sideFrom, directionByte, directionNames, directionFrom, crossByte, crossNames, crossFrom, qualifierByte, qualifierNames, qualifierFrom, levelByte, levelNames, levelFrom, interestByte, interestNames, interestFrom, flagByte, flagNames, flagFrom, etpFlagByte, etpFlagNames, etpFlagFrom, subtypeByte, subtypeNames, subtypeFrom, yesNoByte, authenticityByte}
+use Rattle.codes.specs.Names.{nameOf, eventByte, eventNames, eventFrom, categoryByte, categoryNames, categoryFrom, statusByte, statusNames, statusFrom, classByte, classNames, classFrom, tierByte, tierNames, tierFrom, makerModeByte, makerModeNames, makerModeFrom, participantStateByte, participantStateNames, participantStateFrom, actionByte, actionNames, actionFrom, tradingStateByte, tradingStateNames, tradingStateFrom, sideByte, sideNames, sideFrom, directionByte, directionNames, directionFrom, crossByte, crossNames, crossFrom, qualifierByte, qualifierNames, qualifierFrom, levelByte, levelNames, levelFrom, marketByte, marketNames, marketFrom, haltByte, haltNames, haltFrom, interestByte, interestNames, interestFrom, flagByte, flagNames, flagFrom, etpFlagByte, etpFlagNames, etpFlagFrom, subtypeByte, subtypeNames, subtypeFrom, yesNoByte, authenticityByte}
 use Rattle.codes.specs.declared.trade.CrossType.{CrossType}
-use Rattle.codes.proofs.Back.{pass, all-pass, event-back, category-back, status-back, class-back, tier-back, makerMode-back, participantState-back, action-back, tradingState-back, side-back, direction-back, cross-back, qualifier-back, level-back, interest-back, flag-back, etpFlag-back, subtype-back}
+use Rattle.codes.proofs.Back.{pass, all-pass, event-back, category-back, status-back, class-back, tier-back, makerMode-back, participantState-back, action-back, tradingState-back, side-back, direction-back, cross-back, qualifier-back, level-back, market-back, halt-back, interest-back, flag-back, etpFlag-back, subtype-back}
 use Rattle.records.specs.declared.Mpid.{Mpid}
 use Rattle.records.specs.declared.Mpid.the-variants.{Absent, Present}
 use Rattle.records.specs.declared.AddOrder.{AddOrder}
@@ -90,6 +90,14 @@ qualifier-legal = legal qualifierByte qualifierNames _ qualifier qualifier-back 
 level-legal : Legal levelByte level
 unfolding levelFrom level
 level-legal = legal levelByte levelNames _ level level-back tt
+
+market-legal : Legal marketByte market
+unfolding marketFrom market
+market-legal = legal marketByte marketNames _ market market-back tt
+
+halt-legal : Legal haltByte halt
+unfolding haltFrom halt
+halt-legal = legal haltByte haltNames _ halt halt-back tt
 
 interest-legal : Legal interestByte interest
 unfolding interestFrom interest
@@ -172,6 +180,8 @@ codes (Body·.StockDirectory x) h =
     )
 codes (Body·.SystemEvent event) h = rw (event-legal event)
 codes (Body·.TradingAction stock trading-state reserved reason) h = rw (tradingState-legal trading-state)
+codes (Body·.OperationalHalt stock market-code action) h = rw (market-legal market-code, halt-legal action)
+codes (Body·.DirectListing x) h = rw (yesNo-legal (x .«open_eligibility»))
 
 -- values with legal codes are no imbalance record with the cross Intraday
 pub no-intraday : (vs : List ℕ) → codesFine (layout (getD vs 0 0)) (drop 1 vs) ≡ true → intraday vs ≡ false

@@ -5,8 +5,10 @@ use mathlib.Core.List.{List, [], _∷_, _++_}
 use mathlib.Core.Bool.{cond}
 use lib.ListN.{length, take, drop}
 use lib.Dec.{ltb}
+use Rattle.format.specs.declared.Reading.{Reading}
 use Rattle.reader.specs.declared.Window.{Window}
 use Rattle.walk.specs.declared.Walk.{Walk}
+use Rattle.walk.specs.declared.Stepped.{Stepped}
 use Rattle.walk.specs.declared.Verdict.{Verdict}
 use Rattle.walk.specs.declared.Answer.{Answer}
 use Rattle.walk.specs.declared.Answer.the-variants.{Frame, WantsMore, Refused}
@@ -82,11 +84,22 @@ stateAt w s r =
       held = pad 52 (drop (r .tail) s);
       frames = w .frames + length (r .entries);
       accepted = w .accepted + accepts (r .entries);
+      reading = w .reading;
     }
 
 -- a run that used all up and told the walk r of s
 abbrev pub ranOf : Walk → List ℕ → Walked → Ran
 ranOf w s r = record { entries = r .entries; state = stateAt w s r; ended = allUsed }
+
+-- by a step, at most k of them
+unfoldable pub runBy : (Walk → List ℕ → Stepped) → ℕ → Walk → List (List ℕ) → Ran
+runBy step zero w ps = record { entries = []; state = w; ended = cutShort }
+runBy step (suc k) w [] = record { entries = []; state = w; ended = allUsed }
+runBy step (suc k) w (p ∷ ps) =
+    let st = step w p in
+    let f = runBy step k (st .state) (drop (st .used) p ∷ ps) in
+    let m = runBy step k (st .state) ps in
+    follow (st .answer) (st .state) f m
 
 module _ (win : List ℕ → Window) where
   -- the frame at offset o: its size, and its answer for its own bytes alone
@@ -104,19 +117,13 @@ module _ (win : List ℕ → Window) where
   abbrev pub walkOf : List ℕ → Walked
   walkOf s = walkAt (length s) s 0
 
-  unfoldable pub run : ℕ → Walk → List (List ℕ) → Ran
-  run zero w ps = record { entries = []; state = w; ended = cutShort }
-  run (suc k) w [] = record { entries = []; state = w; ended = allUsed }
-  run (suc k) w (p ∷ ps) =
-      let st = stepOf win w p in
-      let f = run k (st .state) (drop (st .used) p ∷ ps) in
-      let m = run k (st .state) ps in
-      follow (st .answer) (st .state) f m
+  abbrev pub run : ℕ → Walk → List (List ℕ) → Ran
+  run k w ps = runBy (stepOf win) k w ps
 
   -- a frame of no bytes: what stands past the last one
   abbrev pub nothing : Entry
   nothing = record { at = 0; size = 0; what = frameOf win [] }
 
   -- as many steps as there are pieces and bytes, and one
-  abbrev pub runOf : List (List ℕ) → Ran
-  runOf ps = run (suc (length ps + length (joined ps))) freshOf ps
+  abbrev pub runOf : Reading → List (List ℕ) → Ran
+  runOf rd ps = run (suc (length ps + length (joined ps))) (freshOf rd) ps

@@ -6,8 +6,10 @@ use mathlib.Core.List.{List, [], _∷_, _++_}
 use mathlib.Core.Bool.{Bool, true, cond, _&&_}
 use lib.ListN.{length, getD, take, drop, replicate}
 use lib.Dec.{ltb, leb, eqb}
+use Rattle.format.specs.declared.Reading.{Reading}
 use Rattle.reader.specs.declared.Window.{Window}
 use Rattle.reader.specs.declared.Window.the-variants.{Message, Incomplete, Refused}
+use Rattle.reader.specs.Window.{windowOf}
 use Rattle.walk.specs.declared.Walk.{Walk}
 use Rattle.walk.specs.declared.Stepped.{Stepped}
 use Rattle.walk.specs.declared.Verdict.{Verdict}
@@ -65,8 +67,8 @@ pub record Ready (w : Walk) (n : ℕ) : Type 0 where
 
 -- ---- a step
 
-abbrev pub freshOf : Walk
-freshOf = record { offset = 0; seen = 0; held = replicate 52 0; frames = 0; accepted = 0 }
+abbrev pub freshOf : Reading → Walk
+freshOf rd = record { offset = 0; seen = 0; held = replicate 52 0; frames = 0; accepted = 0; reading = rd }
 
 -- held, with the piece written over it from place `seen` on, as far as held reaches
 unfoldable pub put : List ℕ → ℕ → List ℕ → List ℕ
@@ -75,10 +77,10 @@ put (h ∷ held) zero [] = h ∷ held
 put (h ∷ held) zero (b ∷ piece) = b ∷ put held zero piece
 put (h ∷ held) (suc seen) piece = h ∷ put held seen piece
 
--- the state past a frame of this size
+-- the state past a frame of this size; the reading stays, as in every state that a step leaves
 abbrev pub pastOf : Walk → ℕ → Verdict → Walk
 pastOf w size v =
-    record { offset = w .offset + size; seen = 0; held = replicate 52 0; frames = w .frames + 1; accepted = w .accepted + countOf v }
+    record { offset = w .offset + size; seen = 0; held = replicate 52 0; frames = w .frames + 1; accepted = w .accepted + countOf v; reading = w .reading }
 
 unfoldable pub doneOf : Walk → ℕ → ℕ → Verdict → Stepped
 doneOf w used size v = record { state = pastOf w size v; used = used; answer = Frame (w .offset) size v }
@@ -87,7 +89,7 @@ doneOf w used size v = record { state = pastOf w size v; used = used; answer = F
 abbrev pub moreOf : Walk → List ℕ → ℕ → Stepped
 moreOf w held n =
     record {
-      state = record { offset = w .offset; seen = w .seen + n; held = held; frames = w .frames; accepted = w .accepted };
+      state = record { offset = w .offset; seen = w .seen + n; held = held; frames = w .frames; accepted = w .accepted; reading = w .reading };
       used = n;
       answer = WantsMore;
     }
@@ -117,6 +119,10 @@ module _ (win : List ℕ → Window) where
   unfoldable pub stepOf : Walk → List ℕ → Stepped
   stepOf w piece =
       cond (soundOf w) (cond (countable (w .offset) (w .seen) (length piece)) (movedOf w piece) (refusedOf w 33)) (refusedOf w 30)
+
+-- the step that the code takes: by the reader's answer, with the reading that the state has
+abbrev pub ownStep : Walk → List ℕ → Stepped
+ownStep w piece = stepOf (windowOf (w .reading)) w piece
 
 -- the two laws of the window's answer that the walk rests on: appended bytes change nothing of an answer; 52 bytes have one
 pub record Lawful (win : List ℕ → Window) : Type 0 where

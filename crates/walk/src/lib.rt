@@ -4,17 +4,19 @@ ghost use mathlib.Core.Path.{_≡_};
 ghost use Prim.Native.Nat.{min};
 ghost use Rattle.reader.specs.Window.{windowOf};
 ghost use Rattle.walk.specs.Walk.{sizeBy, verdictOf, judgeOf, zeroFrom, soundOf, countable, readyOf, put, freshOf};
+use format::Reading;
 use reader::Window;
 use records::Message;
 
 // The state of a walk: offset of the current frame, its bytes so far, the first 52 of these and then zeros, and how many frames ended, and were
-// accepted, before it.
+// accepted, before it. The reading is chosen at the start: no step changes it, so one walk has one edition.
 pub struct Walk {
     pub offset: u64,
     pub seen: usize,
     pub held: [u8; 52],
     pub frames: u64,
     pub accepted: u64,
+    pub reading: Reading,
 }
 
 // The answer on one frame: its message, or number and place.
@@ -41,9 +43,9 @@ pub struct Stepped {
     pub answer: Answer,
 }
 
-// The state before the first byte: all zero.
-pub fn fresh() -> Walk
-    ensures { λ r. ⌜ r ≡ freshOf ⌝ }
+// The state before the first byte, of a walk by this reading: else all zero.
+pub fn fresh(reading: Reading) -> Walk
+    ensures { λ r. ⌜ r ≡ freshOf reading ⌝ }
 {
     Walk {
         offset: 0,
@@ -51,6 +53,7 @@ pub fn fresh() -> Walk
         held: [0u8; 52],
         frames: 0,
         accepted: 0,
+        reading,
     }
 }
 
@@ -162,11 +165,11 @@ fn least(a: usize, b: usize) -> usize
     if a < b { a } else { b }
 }
 
-// The frame rule: the answer on a frame, from its size and its first bytes. No more than 52 are looked at, since 52 always have an answer.
-pub fn judge(s: &[u8], size: usize) -> Verdict
-    ensures { λ r. ⌜ r ≡ judgeOf windowOf (now (s .entry)) size ⌝ }
+// The frame rule: the answer on a frame by a reading, from its size and its first bytes. No more than 52 are looked at, since 52 always have an answer.
+pub fn judge(s: &[u8], size: usize, reading: Reading) -> Verdict
+    ensures { λ r. ⌜ r ≡ judgeOf (windowOf reading) (now (s .entry)) size ⌝ }
 {
     let looked = least(size, 52);
     let n = least(looked, s.len());
-    turned(reader::parse_message(&s[..n]), size)
+    turned(reader::parse_message(&s[..n], reading), size)
 }

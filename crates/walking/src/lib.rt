@@ -1,4 +1,4 @@
-// One step of the walk over a piece of a recording, from a state to the next. What it comes to is `stepOf` (crates/walk/specs/Walk.antt).
+// One step of the walk over a piece of a recording, from a state to the next. What it comes to is `ownStep` (crates/walk/specs/Walk.antt).
 //
 // Arithmetic and tests stand in functions over numbers and states: a function that answers a frame's message is costly to check at each line.
 ghost use mathlib.Core.Path.{_≡_};
@@ -8,7 +8,7 @@ ghost use lib.ListN.{length};
 ghost use lib.Dec.{eqb};
 ghost use Rattle.reader.specs.Window.{windowOf};
 ghost use Rattle.walk.specs.declared.Verdict.{Verdict};
-ghost use Rattle.walk.specs.Walk.{judgeOf, countOf, Ready, put, pastOf, doneOf, moreOf, refusedOf, stepOf};
+ghost use Rattle.walk.specs.Walk.{judgeOf, countOf, Ready, put, pastOf, doneOf, moreOf, refusedOf, ownStep};
 use plan::Plan;
 use walk::Answer;
 use walk::Stepped;
@@ -32,12 +32,17 @@ fn past(w: Walk, size: usize, n: u64) -> Walk
     requires { ⌜ n ≤ 1 ⌝ }
     ensures { λ r. ⌜ ((v : Verdict) → n ≡ countOf v → r ≡ pastOf w size v) ⌝ }
 {
+    let offset = w.offset + size as u64;
+    let frames = w.frames + 1;
+    let accepted = w.accepted + n;
+    let kept = w.reading;
     Walk {
-        offset: w.offset + size as u64,
+        offset,
         seen: 0,
         held: [0u8; 52],
-        frames: w.frames + 1,
-        accepted: w.accepted + n,
+        frames,
+        accepted,
+        reading: kept,
     }
 }
 
@@ -64,19 +69,20 @@ fn one_of<'a>(a: &'a [u8], b: &'a [u8], first: bool) -> &'a [u8]
 // function that is called from one place is compiled into its caller.
 fn judge_joined(w: Walk, piece: &[u8], size: usize) -> Verdict
     requires { ⌜ size ≤ w .seen + length (now piece) ⌝ }
-    ensures { λ r. ⌜ r ≡ judgeOf windowOf (put (w .held) (w .seen) (now (piece .entry))) size ⌝ }
+    ensures { λ r. ⌜ r ≡ judgeOf (windowOf (w .reading)) (put (w .held) (w .seen) (now (piece .entry))) size ⌝ }
 {
+    let reading = w.reading;
     let held = w.held;
     let seen = w.seen;
     let all = join(held, seen, piece);
-    walk::judge(one_of(piece, &all, seen == 0), size)
+    walk::judge(one_of(piece, &all, seen == 0), size, reading)
 }
 
 // The state past a frame that ends, and its answer.
 fn done(w: Walk, piece: &[u8], used: usize, size: usize) -> Stepped
     requires { ⌜ Ready w (length (now piece)) ⌝ }
     requires { ⌜ size ≤ w .seen + length (now piece) ⌝ }
-    ensures { λ r. ⌜ r ≡ doneOf w used size (judgeOf windowOf (put (w .held) (w .seen) (now (piece .entry))) size) ⌝ }
+    ensures { λ r. ⌜ r ≡ doneOf w used size (judgeOf (windowOf (w .reading)) (put (w .held) (w .seen) (now (piece .entry))) size) ⌝ }
 {
     let v = judge_joined(w, piece, size);
     let state = past(w, size, count(v));
@@ -96,6 +102,7 @@ fn more(w: Walk, piece: &[u8]) -> Walk
     requires { ⌜ Ready w (length (now piece)) ⌝ }
     ensures { λ r. ⌜ r ≡ moreOf w (put (w .held) (w .seen) (now (piece .entry))) (length (now (piece .entry))) .state ⌝ }
 {
+    let reading = w.reading;
     let seen = w.seen;
     let held = w.held;
     let held = walk::put_in(held, seen, piece);
@@ -105,6 +112,7 @@ fn more(w: Walk, piece: &[u8]) -> Walk
         held,
         frames: w.frames,
         accepted: w.accepted,
+        reading,
     }
 }
 
@@ -130,9 +138,9 @@ fn refused(w: Walk, number: u8) -> Stepped
     }
 }
 
-// Uses bytes up to the first frame end and answers that frame, or uses the whole piece and wants more. 30 comes before 33.
+// By the state's reading: uses bytes up to the first frame end and answers that frame, or uses the whole piece and wants more. 30 comes before 33.
 pub fn step(w: Walk, piece: &[u8]) -> Stepped
-    ensures { λ r. ⌜ r ≡ stepOf windowOf w (now (piece .entry)) ⌝ }
+    ensures { λ r. ⌜ r ≡ ownStep w (now (piece .entry)) ⌝ }
 {
     let p = plan::plan_step(w, piece);
     match p {

@@ -2,18 +2,22 @@
 // all on standard output and standard error. Started with the word `status` it also says one byte on descriptor 3, as its last act, and who started
 // it makes a status of that.
 ghost use mathlib.Core.Path.{_≡_};
-ghost use Rattle.words.specs.Words.{equal, wordOf, unknownOf, withOf, byteOf, endingBy};
+ghost use Rattle.words.specs.Words.{equal, wordOf, unknownOf, onceOf, withOf, readingOf, byteOf, endingBy};
+use format::Edition;
+use format::Reading;
 
-// What one word asks for: `quiet`, lines for what is refused only; `status`, the byte at the end; anything else is no word.
+// What one word asks for: `quiet`, lines for what is refused only; `later`, the later edition; `status`, the byte at the end; anything else is no word.
 pub enum Word {
     Quiet,
+    Later,
     Status,
     Other,
 }
 
-// What all words ask for, and whether each is one that the program has.
+// What all words ask for, and whether each is one that the program has, and none is there twice.
 pub struct Words {
     pub quiet: bool,
+    pub later: bool,
     pub status: bool,
     pub known: bool,
 }
@@ -50,6 +54,9 @@ pub fn word_of(s: &[u8]) -> Word
     if is(s, b"quiet") {
         return Word::Quiet;
     }
+    if is(s, b"later") {
+        return Word::Later;
+    }
     if is(s, b"status") {
         return Word::Status;
     }
@@ -62,12 +69,23 @@ fn unknown(w: Words) -> Words
 {
     Words {
         quiet: w.quiet,
+        later: w.later,
         status: w.status,
         known: false,
     }
 }
 
-// One word more. `quiet` is known to a program that has it.
+// Whether the words are still known behind one that was there before, or was not.
+fn once(known: bool, before: bool) -> bool
+    ensures { λ r. ⌜ r ≡ onceOf known before ⌝ }
+{
+    if before {
+        return false;
+    }
+    known
+}
+
+// One word more. `quiet` is known to a program that has it; no word is known a second time.
 pub fn with(w: Words, word: Word, has: bool) -> Words
     ensures { λ r. ⌜ r ≡ withOf w word has ⌝ }
 {
@@ -76,17 +94,25 @@ pub fn with(w: Words, word: Word, has: bool) -> Words
             if has {
                 Words {
                     quiet: true,
+                    later: w.later,
                     status: w.status,
-                    known: w.known,
+                    known: once(w.known, w.quiet),
                 }
             } else {
                 unknown(w)
             }
         }
+        Word::Later => Words {
+            quiet: w.quiet,
+            later: true,
+            status: w.status,
+            known: once(w.known, w.later),
+        },
         Word::Status => Words {
             quiet: w.quiet,
+            later: w.later,
             status: true,
-            known: w.known,
+            known: once(w.known, w.status),
         },
         Word::Other => unknown(w),
     }
@@ -115,6 +141,7 @@ fn word_at(i: usize) -> Word {
 pub fn asked(has: bool) -> Words {
     let mut w = Words {
         quiet: false,
+        later: false,
         status: false,
         known: true,
     };
@@ -126,6 +153,20 @@ pub fn asked(has: bool) -> Words {
         i += 1;
     }
     w
+}
+
+// How the words ask to read: by the old edition, or by the later one where `later` is among them.
+pub fn reading(w: Words) -> Reading
+    ensures { λ r. ⌜ r ≡ readingOf w ⌝ }
+{
+    if w.later {
+        return Reading {
+            edition: Edition::Later,
+        };
+    }
+    Reading {
+        edition: Edition::Old,
+    }
 }
 
 // The last act of a program that was asked for it: the ending's byte on descriptor 3.

@@ -3,6 +3,7 @@
 use mathlib.Core.Path.{_≡_, refl, sym, ap, _∙_}
 use mathlib.Core.List.{List, _++_}
 use mathlib.Core.Bool.{Bool, true, false, _&&_}
+use mathlib.Core.Logic.{⊎-elim}
 use native.Mathlib.Omega.{arith}
 use Prim.Native.Nat.{ℕ, _+_, _^_, _≤_, _<_}
 use lib.ListN.{length, length-append, getD, drop}
@@ -10,7 +11,9 @@ use lib.Seq.{sets, sets-eq, length-sets}
 use borrow.Author.Tests.{eq-eqb, ne-eqb, lt-ltb, le-ltb, le-leb, lt-leb}
 use Rattle.format.specs.Utf8.{wellFormed}
 use Rattle.format.specs.Layout.{widths}
-use Rattle.format.specs.Rows.{sizeOf, header}
+use Rattle.format.specs.Rows.{sizeIn, sizeOf, sizeBy, header}
+use Rattle.format.specs.declared.Reading.{Reading}
+use Rattle.format.proofs.Editions.{row-in}
 use Rattle.pen.specs.Encode.{digits, write, layout, putRow}
 use Rattle.pen.proofs.Digits.{sets-append}
 use Rattle.pen.proofs.Puts.{length-write, row-fits}
@@ -99,6 +102,8 @@ body-rowed (Body·.RetailPriceImprovementIndicator x) = (refl, refl)
 body-rowed (Body·.StockDirectory x) = (refl, refl)
 body-rowed (Body·.SystemEvent event) = (refl, refl)
 body-rowed (Body·.TradingAction stock trading-state reserved reason) = (refl, refl)
+body-rowed (Body·.OperationalHalt stock market-code action) = (refl, refl)
+body-rowed (Body·.DirectListing x) = (refl, refl)
 
 pub body-size : (b : Body) → sizeOf (tagOf b) ≡ 11 + widths (layout (tagOf b))
 body-size b = body-rowed b .0
@@ -106,35 +111,49 @@ body-size b = body-rowed b .0
 pub body-count : (b : Body) → length (values b) ≡ 1 + length (layout (tagOf b))
 body-count b = body-rowed b .1
 
+-- a reading that has a tag has it with the size that the tag has
+size-by : (rd : Reading) (t : ℕ) → 0 < sizeBy rd t → sizeBy rd t ≡ sizeOf t
+unfolding sizeBy sizeOf
+size-by rd t h = ⊎-elim (ap sizeIn) (λ e. absurd (omega (arith, ap sizeIn e))) (row-in rd t)
+
+-- what was found, if it is not zero
+pub known : (rd : Reading) (t : ℕ) {n : ℕ} → n ≡ sizeBy rd t → (n ≡ 0 → ⊥) → (0 < sizeBy rd t) × (n ≡ sizeOf t)
+known rd t e h = let l : 0 < sizeBy rd t = omega arith in (l, e ∙ size-by rd t l)
+
 -- the answers
-module _ (m : Message) (room : ℕ) where
-  pub says40 : (m .tag ≡ tagOf (m .body) → ⊥) → Refused 40 ≡ writtenOf m room
+module _ (rd : Reading) (m : Message) (room : ℕ) where
+  pub says40 : (m .tag ≡ tagOf (m .body) → ⊥) → Refused 40 ≡ writtenOf rd m room
   unfolding writtenOf
   says40 h = rw (ne-eqb _ _ h)
 
   module _ (t : m .tag ≡ tagOf (m .body)) where
-    pub says41 : 2 ^ 48 ≤ m .timestamp → Refused 41 ≡ writtenOf m room
+    pub says40-unknown : sizeBy rd (m .tag) ≡ 0 → Refused 40 ≡ writtenOf rd m room
     unfolding writtenOf
-    says41 h = rw (eq-eqb _ _ t, le-ltb _ _ h)
+    says40-unknown z = rw (eq-eqb _ _ t, z)
 
-    module _ (h : m .timestamp < 2 ^ 48) where
-      pub says42 : textsOf (values (m .body)) ≡ false → Refused 42 ≡ writtenOf m room
+    module _ (k : 0 < sizeBy rd (m .tag)) where
+      pub says41 : 2 ^ 48 ≤ m .timestamp → Refused 41 ≡ writtenOf rd m room
       unfolding writtenOf
-      says42 f = rw (eq-eqb _ _ t, lt-ltb _ _ h, f)
+      says41 h = rw (eq-eqb _ _ t, lt-ltb _ _ k, le-ltb _ _ h)
 
-      module _ (f : textsOf (values (m .body)) ≡ true) where
-        pub says43 : intraday (values (m .body)) ≡ true → Refused 43 ≡ writtenOf m room
+      module _ (h : m .timestamp < 2 ^ 48) where
+        pub says42 : textsOf (values (m .body)) ≡ false → Refused 42 ≡ writtenOf rd m room
         unfolding writtenOf
-        says43 i = rw (eq-eqb _ _ t, lt-ltb _ _ h, f, i)
+        says42 f = rw (eq-eqb _ _ t, lt-ltb _ _ k, lt-ltb _ _ h, f)
 
-        module _ (i : intraday (values (m .body)) ≡ false) where
-          pub says44 : room < 2 + sizeOf (m .tag) → Refused 44 ≡ writtenOf m room
+        module _ (f : textsOf (values (m .body)) ≡ true) where
+          pub says43 : intraday (values (m .body)) ≡ true → Refused 43 ≡ writtenOf rd m room
           unfolding writtenOf
-          says44 l = rw (eq-eqb _ _ t, lt-ltb _ _ h, f, i, lt-leb _ _ l)
+          says43 i = rw (eq-eqb _ _ t, lt-ltb _ _ k, lt-ltb _ _ h, f, i)
 
-          pub says-done : 2 + sizeOf (m .tag) ≤ room → Done (2 + sizeOf (m .tag)) ≡ writtenOf m room
-          unfolding writtenOf
-          says-done l = rw (eq-eqb _ _ t, lt-ltb _ _ h, f, i, le-leb _ _ l)
+          module _ (i : intraday (values (m .body)) ≡ false) where
+            pub says44 : room < 2 + sizeOf (m .tag) → Refused 44 ≡ writtenOf rd m room
+            unfolding writtenOf
+            says44 l = rw (eq-eqb _ _ t, lt-ltb _ _ k, lt-ltb _ _ h, f, i, lt-leb _ _ l)
+
+            pub says-done : 2 + sizeOf (m .tag) ≤ room → Done (2 + sizeOf (m .tag)) ≡ writtenOf rd m room
+            unfolding writtenOf
+            says-done l = rw (eq-eqb _ _ t, lt-ltb _ _ k, lt-ltb _ _ h, f, i, le-leb _ _ l)
 
 -- the header, then the body: the message, and later bytes stay
 length-encode : (m : Message) → m .tag ≡ tagOf (m .body) → length (encode m) ≡ 2 + sizeOf (m .tag)

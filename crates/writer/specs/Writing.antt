@@ -1,4 +1,4 @@
--- What writing a message into a buffer answers, and the buffer afterwards. The bytes go by the rows that the reader goes by.
+-- What writing a message into a buffer answers, by a reading, and the buffer afterwards. The bytes go by the rows that the reader goes by.
 -- Assumes nothing.
 use Prim.Native.Nat.{ℕ, _+_, _^_}
 use mathlib.Core.List.{List, [], _∷_, _++_}
@@ -7,7 +7,8 @@ use lib.Dec.{ltb, leb, eqb}
 use lib.ListN.{getD, drop}
 use Rattle.format.specs.Ascii.{'A', 'F', 'I'}
 use Rattle.format.specs.Utf8.{wellFormed}
-use Rattle.format.specs.Rows.{sizeOf, header}
+use Rattle.format.specs.Rows.{sizeOf, sizeBy, header}
+use Rattle.format.specs.declared.Reading.{Reading}
 use Rattle.pen.specs.Encode.{digits, write, layout, textsFine, Sized}
 use Rattle.records.specs.declared.Mpid.{Mpid}
 use Rattle.records.specs.declared.Mpid.the-variants.{Absent, Present}
@@ -52,10 +53,14 @@ headOf m = sizeOf (m .tag) ∷ m .tag ∷ m .«stock_locate» ∷ m .«tracking_
 unfoldable pub encode : Message → List ℕ
 encode m = write header (headOf m) ++ write (layout (m .tag)) (fieldsOf (m .body))
 
--- what writing into a buffer of some length answers. A tag that has no row is no body's, so it is 40
-unfoldable pub writtenOf : Message → ℕ → Written
-writtenOf m room =
-    cond (eqb (m .tag) (tagOf (m .body)))
+-- whether the tag is the body's, and the reading has it
+abbrev pub tagFine : Reading → Message → Bool
+tagFine rd m = eqb (m .tag) (tagOf (m .body)) && ltb 0 (sizeBy rd (m .tag))
+
+-- what writing into a buffer of some length answers, by a reading. A tag that has no row at all is no body's, so it is 40 too
+unfoldable pub writtenOf : Reading → Message → ℕ → Written
+writtenOf rd m room =
+    cond (tagFine rd m)
     (cond (ltb (m .timestamp) (2 ^ 48))
     (cond (textsOf (values (m .body)))
     (cond (intraday (values (m .body))) (Refused 43)

@@ -13,12 +13,13 @@ ghost use Rattle.pen.specs.Encode.{PutRow};
 ghost use Rattle.records.specs.Values.{values};
 ghost use Rattle.writer.specs.Writing.{checkedOf, mpidTag, mpidFine, writtenOf, bufferAfter, FieldsFit};
 use codes::CrossType;
+use format::Reading;
 use records::Body;
 use records::Message;
 use records::Mpid;
 
-// Written, and how many bytes; or refused: 40 tag and body kind disagree, 41 timestamp of 2^48 or more, 42 a text that is not UTF-8, 43 Intraday
-// in an imbalance record, 44 the buffer is shorter than 2 + size.
+// Written, and how many bytes; or refused: 40 tag and body kind disagree, or the reading has no such tag, 41 timestamp of 2^48 or more, 42 a text
+// that is not UTF-8, 43 Intraday in an imbalance record, 44 the buffer is shorter than 2 + size.
 pub enum Written {
     Done(usize),
     Refused(u8),
@@ -201,6 +202,20 @@ fn check_body(b: Body) -> Checked
             texts: both(pen::is_text8(stock), pen::is_text4(reason)),
             intraday: false,
         },
+        Body::OperationalHalt {
+            stock,
+            market_code: _,
+            action: _,
+        } => Checked {
+            tag: b'h',
+            texts: pen::is_text8(stock),
+            intraday: false,
+        },
+        Body::DirectListing(x) => Checked {
+            tag: b'O',
+            texts: pen::is_text8(x.stock),
+            intraday: false,
+        },
     }
 }
 
@@ -216,9 +231,9 @@ fn put_header(buf: &mut [u8], size: u8, tag: u8, locate: u16, tracking: u16, tim
     pen::set_u48(buf, 7, time);
 }
 
-// Puts the record at the front of the buffer and answers how many bytes it took, or refuses and leaves the buffer as it was.
-pub fn write(m: Message, buf: &mut [u8]) -> Written
-    ensures { λ r. ⌜ r ≡ writtenOf m (length (now (buf .entry))) ⌝ }
+// Puts the record at the front of the buffer, by a reading, and answers how many bytes it took, or refuses and leaves the buffer as it was.
+pub fn write(m: Message, buf: &mut [u8], reading: Reading) -> Written
+    ensures { λ r. ⌜ r ≡ writtenOf reading m (length (now (buf .entry))) ⌝ }
     ensures { λ r. ⌜ now (buf .exit) ≡ bufferAfter r m (now (buf .entry)) ⌝ }
     ensures { λ r. ⌜ FieldsFit r m ⌝ }
 {
@@ -227,6 +242,10 @@ pub fn write(m: Message, buf: &mut [u8]) -> Written
     let body = m.body;
     let own = check_body(body);
     if tag != own.tag {
+        return Written::Refused(40);
+    }
+    let size = tables::size_of_tag(tag, reading);
+    if size == 0 {
         return Written::Refused(40);
     }
     let late = 0x1000000000000 <= time;
@@ -240,7 +259,6 @@ pub fn write(m: Message, buf: &mut [u8]) -> Written
     if own.intraday {
         return Written::Refused(43);
     }
-    let size = tables::size_of_tag(tag);
     let n = 2 + size as usize;
     if buf.len() < n {
         return Written::Refused(44);

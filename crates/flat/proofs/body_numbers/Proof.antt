@@ -184,6 +184,30 @@ cast-numbers-15 c = search needs
 numbers-requires-11 : tie.Need-numbers-requires-11
 numbers-requires-11 c κs = search needs
 
+enum-known-body-21 : tie.Need-enum-known-body-21
+enum-known-body-21 c = search needs
+
+market-code-requires : tie.Need-market-code-requires
+market-code-requires c κs = search needs
+
+cast-numbers-16 : tie.Need-cast-numbers-16
+cast-numbers-16 c = search needs
+
+halt-code-requires : tie.Need-halt-code-requires
+halt-code-requires c κs = search needs
+
+cast-numbers-17 : tie.Need-cast-numbers-17
+cast-numbers-17 c = search needs
+
+numbers-requires-12 : tie.Need-numbers-requires-12
+numbers-requires-12 c κs = search needs
+
+enum-known-body-22 : tie.Need-enum-known-body-22
+enum-known-body-22 c = search needs
+
+direct-listing-requires : tie.Need-direct-listing-requires
+direct-listing-requires c κs = search needs
+
 returns : tie.Need-returns
 returns c = rw (c .before .before .body .given .1, c .add-order .ensures)
 
@@ -243,6 +267,12 @@ returns-19 c = rw (c .before .before .before .body19 .given .1, c .numbers10 .en
 
 returns-20 : tie.Need-returns-20
 returns-20 c = rw (c .before .before .before .body20 .given .1, c .numbers11 .ensures, c .before .trading-state-code .ensures)
+
+returns-21 : tie.Need-returns-21
+returns-21 c = rw (c .before .before .before .before .body21 .given .1, c .numbers12 .ensures, c .before .halt-code .ensures, c .before .before .market-code .ensures)
+
+returns-22 : tie.Need-returns-22
+returns-22 c = rw (c .before .before .body22 .given .1, c .direct-listing .ensures)
 
 pub body-numbers-spec : {M : Type 1} → statement M
 body-numbers-spec =
@@ -308,6 +338,14 @@ body-numbers-spec =
     cast-numbers-14
     cast-numbers-15
     numbers-requires-11
+    enum-known-body-21
+    market-code-requires
+    cast-numbers-16
+    halt-code-requires
+    cast-numbers-17
+    numbers-requires-12
+    enum-known-body-22
+    direct-listing-requires
     returns
     returns-2
     returns-3
@@ -327,4 +365,6 @@ body-numbers-spec =
     returns-17
     returns-18
     returns-19
-    returns-20)
+    returns-20
+    returns-21
+    returns-22)

@@ -7,6 +7,7 @@ use native.Mathlib.Omega.{arith}
 use borrow.Author.Tests.{not-true, not-false}
 use lib.ListN.{length, length-take}
 use Rattle.walk.specs.declared.Walk.{Walk}
+use Rattle.demand.proofs.Demand3.{reached-reading}
 use Rattle.lines.specs.Lines.{closingOf}
 use Rattle.text.proofs.Laws.{wrote-long, wrote-front}
 use Rattle.framing.specs.Told.{whole, failed}
@@ -15,6 +16,9 @@ use Rattle.framing.proofs.Loop.{closes}
 use borrow.Author.Needs.{needs}
 use Rattle.framing.proofs.print_frames.Statement.{statement}
 use Rattle.framing.proofs.print_frames.Tie as tie
+
+reading-requires : tie.Need-reading-requires
+reading-requires c κs = search needs
 
 large-buffer-requires : tie.Need-large-buffer-requires
 large-buffer-requires c κs = search needs
@@ -63,7 +67,7 @@ closingAt w = closingOf (w .offset) (w .seen) (w .frames) (w .accepted)
 
 close-requires : tie.Need-close-requires
 close-requires c κs =
-    closes _ _ _ (c .before .before .before .before .before .before .before .before .before .before .before .read-all .ensures) (sym (c .before .before .before .before .before .before .taken .ensures) ∙ not-false _ (c .before .before .before .before .before .if1 .left))
+    closes _ _ _ _ (c .before .before .before .before .before .before .before .before .before .before .before .read-all .ensures) (sym (c .before .before .before .before .before .before .taken .ensures) ∙ not-false _ (c .before .before .before .before .before .if1 .left))
     (wrote-front (c .before .before .closing .ensures) ∙ ap closingAt (c .before .before .before .before .state .ensures))
 
 went-requires-2 : tie.Need-went-requires-2
@@ -74,7 +78,9 @@ report-requires-2 c κs = search needs
 
 returns-2 : tie.Need-returns-2
 returns-2 c =
-    whole (c .before .before .close .ensures .0 ∙ c .before .before .before .before .before .before .before .before .before .before .before .before .before .before .read-all .ensures .told) (c .before .before .close .ensures .1 .1 .1)
+    whole (c .before .before .close .ensures .0 ∙ c .before .before .before .before .before .before .before .before .before .before .before .before .before .before .read-all .ensures .told)
+    (ap (λ (w : Walk). w .reading) (c .before .before .close .ensures .1 .0) ∙ reached-reading (c .before .before .before .before .before .before .before .before .before .before .before .before .before .before .read-all .ensures .reached) ∙ c .before .before .before .before .before .before .before .before .before .before .before .before .before .before .before .before .before .before .before .reading .ensures)
+    (c .before .before .close .ensures .1 .1 .1)
     (c .before .before .close .ensures .1 .1 .0
     ∙ ap length (wrote-front (c .before .before .before .before .before .closing .ensures) ∙ ap closingAt (c .before .before .before .before .before .before .before .state .ensures ∙ sym (c .before .before .close .ensures .1 .0))))
 
@@ -82,6 +88,7 @@ pub print-frames-spec : {M : Type 1} → statement M
 print-frames-spec =
     tie.close
     (tie.spec
+    reading-requires
     large-buffer-requires
     large-buffer-requires-2
     slice-aggregate-read-all

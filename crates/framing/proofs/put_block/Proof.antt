@@ -17,7 +17,7 @@ use Rattle.framing.proofs.put_block.Tie as tie
 
 abbrev Inv-loop : tie.InvT-loop
 Inv-loop block out₀ quiet sent₀ from₀ out sent from =
-    In quiet block (sent₀ .state) (sent .state) from × (sent .quiet ≡ quiet) × (sent .written .taken ≡ true) × (length out ≡ length out₀) × (137 ≤ length out₀)
+    In quiet (sent₀ .state .reading) block (sent₀ .state) (sent .state) from × (sent .quiet ≡ quiet) × (sent .written .taken ≡ true) × (length out ≡ length out₀) × (137 ≤ length out₀)
 
 abbrev μ-loop : tie.MeasureT-loop
 μ-loop block out₀ quiet sent₀ from₀ out sent from = length block - from
@@ -26,7 +26,7 @@ quiet-requires : tie.Need-quiet-requires Inv-loop μ-loop
 quiet-requires c κs = search needs
 
 loop-holds : tie.Need-loop-holds Inv-loop μ-loop
-loop-holds c = (in-start _ _ _ (c .before .before .before .pre .0), sym (c .quiet .ensures), c .before .before .before .pre .1, refl, c .before .before .before .pre .2)
+loop-holds c = (in-start _ _ _ _ (c .before .before .before .pre .0), sym (c .quiet .ensures), c .before .before .before .pre .1, refl, c .before .before .before .pre .2)
 
 state-requires : tie.Need-state-requires Inv-loop μ-loop
 state-requires c κs = search needs
@@ -36,17 +36,17 @@ walk-block-requires c κs = search needs
 
 -- the call of a turn, from what was sent
 called : (m : tie.After-walk-block Inv-loop μ-loop)
-    → Called (m .before .before .before .before .before .quiet .result) windowOf (m .before .before .before .before .loop .sent .state) (m .before .before .before .before .before .before .before .before .args .block .now) (m .before .before .before .before .loop .from) (m .before .before .before .before .loop .out) 0 (m .walk-block .last .1 .1 .1 .0) (m .walk-block .result)
+    → Called (m .before .before .before .before .before .quiet .result) (windowOf (m .before .before .before .before .loop .sent .state .reading)) (m .before .before .before .before .loop .sent .state) (m .before .before .before .before .before .before .before .before .args .block .now) (m .before .before .before .before .loop .from) (m .before .before .before .before .loop .out) 0 (m .walk-block .last .1 .1 .1 .0) (m .walk-block .result)
 called m =
-    subst (λ (w : Walk). Called (m .before .before .before .before .before .quiet .result) windowOf w (m .before .before .before .before .before .before .before .before .args .block .now) (m .before .before .before .before .loop .from) (m .before .before .before .before .loop .out) 0 (m .walk-block .last .1 .1 .1 .0) (m .walk-block .result))
+    subst (λ (w : Walk). Called (m .before .before .before .before .before .quiet .result) (windowOf (w .reading)) w (m .before .before .before .before .before .before .before .before .args .block .now) (m .before .before .before .before .loop .from) (m .before .before .before .before .loop .out) 0 (m .walk-block .last .1 .1 .1 .0) (m .walk-block .result))
     (m .before .before .state .ensures) (m .walk-block .ensures)
 
 long : (m : tie.After-walk-block Inv-loop μ-loop) → length (m .walk-block .last .1 .1 .1 .0) ≡ length (m .before .before .before .before .loop .out)
-long m = called-long _ _ _ _ _ _ _ _ (m .before .before .before .before .loop .inv .0) (called m)
+long m = called-long _ _ _ _ _ _ _ _ _ (m .before .before .before .before .loop .inv .0) (called m)
 
 in-next : (m : tie.After-walk-block Inv-loop μ-loop)
-    → In (m .before .before .before .before .before .quiet .result) (m .before .before .before .before .before .before .before .before .args .block .now) (m .before .before .before .before .before .before .before .before .args .s .state) (m .walk-block .result .state) (m .walk-block .result .from)
-in-next m = called-in _ _ _ _ _ _ _ _ (m .before .before .before .before .loop .inv .0) (called m)
+    → In (m .before .before .before .before .before .quiet .result) (m .before .before .before .before .before .before .before .before .args .s .state .reading) (m .before .before .before .before .before .before .before .before .args .block .now) (m .before .before .before .before .before .before .before .before .args .s .state) (m .walk-block .result .state) (m .walk-block .result .from)
+in-next m = called-in _ _ _ _ _ _ _ _ _ (m .before .before .before .before .loop .inv .0) (called m)
 
 slice-reshare-prefix-put : tie.Need-slice-reshare-prefix-put Inv-loop μ-loop
 slice-reshare-prefix-put c = let m = c .before .before in omega (arith, called m .inside (omega arith), long m)
@@ -67,7 +67,7 @@ returns : tie.Need-returns Inv-loop μ-loop
 returns c =
     let m = c .before .before .before .before .before .before in
     as-asked (c .before .before .before .before .before .before .before .before .before .before .before .quiet .ensures)
-    (in-short _ _ _ _ _ _ _ _ (c .before .before .before .before .before .before .before .before .before .before .loop .inv .0) (called m) _ (c .before .before .put .ensures .0 ∙ c .before .before .before .before .before .before .before .before .before .before .loop .inv .1) (c .before .before .put .ensures .1 .0) (inl (sym (c .before .taken .ensures) ∙ not-true _ (c .if1 .taken))))
+    (in-short _ _ _ _ _ _ _ _ _ (c .before .before .before .before .before .before .before .before .before .before .loop .inv .0) (called m) _ (c .before .before .put .ensures .0 ∙ c .before .before .before .before .before .before .before .before .before .before .loop .inv .1) (c .before .before .put .ensures .1 .0) (inl (sym (c .before .taken .ensures) ∙ not-true _ (c .if1 .taken))))
 
 stops-requires : tie.Need-stops-requires Inv-loop μ-loop
 stops-requires c κs = search needs
@@ -79,13 +79,13 @@ returns-2 : tie.Need-returns-2 Inv-loop μ-loop
 returns-2 c =
     let m = c .before .before .before .before .before .before .before .before in
     as-asked (c .before .before .before .before .before .before .before .before .before .before .before .before .before .quiet .ensures)
-    (in-short _ _ _ _ _ _ _ _ (c .before .before .before .before .before .before .before .before .before .before .before .before .loop .inv .0) (called m) _ (c .before .before .before .before .put .ensures .0 ∙ c .before .before .before .before .before .before .before .before .before .before .before .before .loop .inv .1) (c .before .before .before .before .put .ensures .1 .0) (inr (sym (c .before .stops .ensures) ∙ c .if2 .taken)))
+    (in-short _ _ _ _ _ _ _ _ _ (c .before .before .before .before .before .before .before .before .before .before .before .before .loop .inv .0) (called m) _ (c .before .before .before .before .put .ensures .0 ∙ c .before .before .before .before .before .before .before .before .before .before .before .before .loop .inv .1) (c .before .before .before .before .put .ensures .1 .0) (inr (sym (c .before .stops .ensures) ∙ c .if2 .taken)))
 
 loop-less : tie.Need-loop-less Inv-loop μ-loop
 loop-less c =
     let m = c .before .before .before .before .before .before .before .before in
     let l = c .before .before .before .before .before .before .before .before .before .before .before .before .loop in
-    let z = called-went _ _ _ _ _ _ _ _ (l .inv .0) (called m) (c .before .before .before .before .before .before .before .before .before .before .before .loop-test .taken) (omega arith) (sym (c .before .stops .ensures) ∙ c .if2 .left) in
+    let z = called-went _ _ _ _ _ _ _ _ _ (l .inv .0) (called m) (c .before .before .before .before .before .before .before .before .before .before .before .loop-test .taken) (omega arith) (sym (c .before .stops .ensures) ∙ c .if2 .left) in
     let y = in-next m .inside in
     omega arith
 
@@ -104,7 +104,7 @@ same-length-3 : tie.Need-same-length-3 Inv-loop μ-loop
 same-length-3 c = c .before .loop .inv .3
 
 returns-3 : tie.Need-returns-3 Inv-loop μ-loop
-returns-3 c = as-asked (c .before .before .quiet .ensures) (in-end _ _ _ _ _ (c .before .loop .inv .0) (c .loop-test .left) (c .before .loop .inv .1) (c .before .loop .inv .2))
+returns-3 c = as-asked (c .before .before .quiet .ensures) (in-end _ _ _ _ _ _ (c .before .loop .inv .0) (c .loop-test .left) (c .before .loop .inv .1) (c .before .loop .inv .2))
 
 pub put-block-spec : {M : Type 1} → statement M
 put-block-spec =

@@ -1,4 +1,4 @@
--- `lender::play` meets its contract: a walk of its MIR, by hand, as `make_room`'s, with a shared slice and two numbers besides.
+-- `lender::play` meets its contract: a walk of its MIR, by hand, as `make_room`'s, with a shared slice, two numbers and a reading besides.
 -- Assumes nothing.
 use Rattle.lent.proofs.Prelude.{_≡_, refl, ap, ℕ, zero, _+_, _<_, _^_, [], _∷_, List, length}
 use Rattle.lent.proofs.Prelude.{URA, fullShare, named, w64, Val, vptr, vint, SProp, ent, id⊢, GName, Lft, Share, ftrue, fat, flft, Fml}
@@ -18,6 +18,9 @@ use prog.Memory.{fieldAt}
 use types.Part.{Part}
 use lib.Dec.{T as Holds}
 use denote.Struct.Laws as LL
+use Rattle.format.specs.declared.Reading.{Reading}
+use Rattle.format.proofs.Reading as R
+use Rattle.format.proofs.Reading.Laws as R′
 use Rattle.play.specs.Play.{playOf, Out}
 use Rattle.play.specs.declared.Played.{Played}
 use Rattle.play.proofs.Played as S
@@ -33,7 +36,7 @@ use Rattle.lent.proofs.play_on as g
 use Rattle.lent.proofs.play_on.Symbol as g-def
 use Rattle.lent.proofs.play_on.Symbol.{name as #lent·play-on}
 use Rattle.lent.proofs.play_on.Met as g-thm
-use Rattle.lent.proofs.Held.{state-val, num-val, num, state-typed, hands, gone, adds-num}
+use Rattle.lent.proofs.Held.{state-val, num-val, num, reading-val, Reads-as, state-typed, reading-typed, hands, gone, adds-num, adds-reading}
 use Rattle.lent.proofs.Walk.{clause, _and_, by-walk, hears, walk-ends}
 use Rattle.lender.proofs.Loan.{ref-at, lends-local, comes-back}
 use Rattle.lender.proofs.play.Key.{name as #lender·play}
@@ -46,7 +49,7 @@ stayed =
     let buf = gave-slice (0 ∷ []) tt (plain (λ _. u8)) in
     let src = stay-none-slice (1 ∷ []) tt (plain (λ _. u8)) yes in
     let number = stay-none (λ _. usize) yes in
-    (stay-none (λ _. T.the-row) yes, (buf, (src, (number, (number, tt)))))
+    (stay-none (λ _. T.the-row) yes, (buf, (src, (number, (number, (stay-none (λ _. R.the-row) yes, tt))))))
 
 -- the types as the code's own table spells them: compared with those of the laws once, here, and not at every step of the walk
 abbrev reach-name : List ℕ
@@ -128,7 +131,7 @@ module _ {M : Type 1} (𝓤 : URA M) (H : Heap 𝓤) (A : Atoms 𝓤) (at-mem : 
   abbrev Walked : Contract 𝓤
   Walked = walkOf 𝓤 H A f.ended stayed (f.clauses 𝓤 H A at-mem run)
 
-  module _ (W : Given 𝓤 H A) (κ κ₁ : Lft) (q q₁ : Share) (h : Stream) (b o : ℕ) (γ′ : GName) (ys : List ℕ) (y : RefT (List ℕ)) (n w : ℕ) (n-fits : n < 2 ^ 64) (w-fits : w < 2 ^ 64) where
+  module _ (W : Given 𝓤 H A) (κ κ₁ : Lft) (q q₁ : Share) (h : Stream) (b o : ℕ) (γ′ : GName) (ys : List ℕ) (y : RefT (List ℕ)) (n w : ℕ) (n-fits : n < 2 ^ 64) (w-fits : w < 2 ^ 64) (rd : Reading) (rd-is : Reads-as rd) where
     abbrev s : RefT (List ℕ)
     s = record { ptr = (b, o); name = γ′; now = ys }
 
@@ -150,16 +153,16 @@ module _ {M : Type 1} (𝓤 : URA M) (H : Heap 𝓤) (A : Atoms 𝓤) (at-mem : 
 
     -- what is passed besides the state, and its machine values
     abbrev Besides : Type 0
-    Besides = RefT (List ℕ) × (RefT (List ℕ) × (ℕ × (ℕ × Unit {0})))
+    Besides = RefT (List ℕ) × (RefT (List ℕ) × (ℕ × (ℕ × (Reading × Unit {0}))))
 
     abbrev besides : Besides
-    besides = (s, (y, (n, (w, tt))))
+    besides = (s, (y, (n, (w, (rd, tt)))))
 
     abbrev Rest : Type 0
-    Rest = List Val × (List Val × (List Val × (List Val × Unit {0})))
+    Rest = List Val × (List Val × (List Val × (List Val × (List Val × Unit {0}))))
 
     abbrev rest : Rest
-    rest = (sv ∷ [], (yv ∷ [], (num-val n, (num-val w, tt))))
+    rest = (sv ∷ [], (yv ∷ [], (num-val n, (num-val w, (reading-val rd ∷ [], tt)))))
 
     abbrev x : Stream × Besides
     x = (h, besides)
@@ -184,11 +187,11 @@ module _ {M : Type 1} (𝓤 : URA M) (H : Heap 𝓤) (A : Atoms 𝓤) (at-mem : 
 
     goes : (l ν : ℕ) (γ : GName) → ent 𝓤 (⋆ 𝓤 H A (Passed l ν γ)) (Callee .pre (to l ν γ))
     goes l ν γ =
-        qed W (Passed l ν γ) ∵ move ! (2 ∷ []) $ split ! $ nothing ! $ adds-num ! w w-fits $ adds-num ! n n-fits $
+        qed W (Passed l ν γ) ∵ move ! (2 ∷ []) $ split ! $ nothing ! $ adds-reading ! rd rd-is $ adds-num ! w w-fits $ adds-num ! n n-fits $
         move ! (2 ∷ 0 ∷ []) $ fjoin ! $ move ! (1 ∷ 0 ∷ []) $ fjoin ! $ move ! (1 ∷ 0 ∷ []) $ fjoin ! $ move ! (1 ∷ 0 ∷ []) $ join ! $ frame ! $ done !
 
     abbrev found : Out
-    found = playOf (y .now) w h ys n
+    found = playOf rd (y .now) w h ys n
 
     -- what is had in the end
     abbrev Left : List ℕ → List (Item 𝓤)
@@ -198,61 +201,62 @@ module _ {M : Type 1} (𝓤 : URA M) (H : Heap 𝓤) (A : Atoms 𝓤) (at-mem : 
         → Is S.the-row r (played-val r ∷ []) → ent 𝓤 (⋆ 𝓤 H A (Left zs)) (Post (played-val r))
     exits was r zs e l is =
         qed W (Left zs) ∵
-        walk-ends 𝓤 H A f.ended stayed (f.clauses 𝓤 H A at-mem run) here ! (played-val r) r (tt, (zs, (tt, (tt, (tt, tt))))) (tt, (l, (tt, (tt, (tt, tt)))))
+        walk-ends 𝓤 H A f.ended stayed (f.clauses 𝓤 H A at-mem run) here ! (played-val r) r (tt, (zs, (tt, (tt, (tt, (tt, tt)))))) (tt, (l, (tt, (tt, (tt, (tt, tt))))))
         (clause and clause) e $ frame ! $
-        nothing ! $ adds-num ! w w-fits $ adds-num ! n n-fits $ move ! (2 ∷ 0 ∷ []) $ fjoin ! $ move ! (1 ∷ 0 ∷ []) $ fjoin ! $
+        nothing ! $ adds-reading ! rd rd-is $ adds-num ! w w-fits $ adds-num ! n n-fits $ move ! (2 ∷ 0 ∷ []) $ fjoin ! $ move ! (1 ∷ 0 ∷ []) $ fjoin ! $
         owned ! T.the-row (Is T.the-row) (LL.makes T.the-type T′.the-plain 𝓤 H A) h _ was $ fjoin ! $ frame ! $
         owned ! S.the-row (Is S.the-row) (LL.makes S.the-type S′.the-plain 𝓤 H A) r _ is $ done !
 
     module _ (C : Calls 𝓤 H) (Λ : Loops 𝓤 H) (fm : FmC 𝓤 H (W .laws) C) (known : Triple 𝓤 (C #lent·play-on) Callee) where
       walk : Is T.the-row h (state-val h ∷ []) → Room u8 (length ys) → Is (ShrSlice (named 1) κ₁ u8) y (yv ∷ [])
           → ent 𝓤 (onEntry 𝓤 H A f.signature (κ, (κ₁, tt)) (q, (q₁, tt)) x vals)
-          (WpFn 𝓤 H C Λ code.function (state-val h ∷ sv ∷ yv ∷ vint w64 n ∷ vint w64 w ∷ []) Post)
+          (WpFn 𝓤 H C Λ code.function (state-val h ∷ sv ∷ yv ∷ vint w64 n ∷ vint w64 w ∷ reading-val rd ∷ []) Post)
       walk was room p =
-          qed W (Tokens ∷ ‵ (owns (T.the-row ∷ MutSlice (named 0) κ u8 ∷ ShrSlice (named 1) κ₁ u8 ∷ usize ∷ usize ∷ []) x vals) ∷ []) ∵
+          qed W (Tokens ∷ ‵ (owns (T.the-row ∷ MutSlice (named 0) κ u8 ∷ ShrSlice (named 1) κ₁ u8 ∷ usize ∷ usize ∷ R.the-row ∷ []) x vals) ∷ []) ∵
           move ! (1 ∷ []) $ fsplit ! $ move ! (1 ∷ []) $ fsplit ! $ move ! (1 ∷ []) $ fsplit ! $
           use1 W (‵ Shr ⊛ ‵ Shr) (shr-slice-copy 𝓤 H A W (named 1) κ₁ u8 .twice y (yv ∷ [])) $ split ! $ move ! (4 ∷ 5 ∷ 3 ∷ 0 ∷ 1 ∷ []) $
           -- [what h owns; the slices' tokens; what buf owns; what src owns, twice; …]
-          enter ! C Λ code.function (state-val h ∷ sv ∷ yv ∷ vint w64 n ∷ vint w64 w ∷ []) _ $
+          enter ! C Λ code.function (state-val h ∷ sv ∷ yv ∷ vint w64 n ∷ vint w64 w ∷ reading-val rd ∷ []) _ $
           alloc1 ! (λ l₀. alloc1 ! (λ l₁. alloc1 ! (λ l₂. alloc1 ! (λ l₃. alloc1 ! (λ l₄. alloc1 ! (λ l₅. alloc1 ! (λ l₆. alloc1 ! (λ l₇. alloc1 ! (λ l₈.
-          alloc1 ! (λ l₉. alloc1 ! (λ l₁₀. alloc1 ! (λ l₁₁. alloc0 ! $ params1 ! $
-          pass1 ! (init ! 20 {τ = T′.mir} refl (state-typed 𝓤 H A W h was)) $
-          pass1 ! (init ! 18 refl (tt, (tt, (record { fits = room .0 }, tt)))) $
-          pass1 ! (init ! 16 refl (shr-slice-lawful 𝓤 H A W (named 1) κ₁ u8 .typed y (yv ∷ []) p .0)) $
-          pass1 ! (init ! 14 refl (num n-fits)) $ pass1 ! (init ! 12 refl (num w-fits)) $ pass0 ! $
-          -- _6 = _1; _8 = &mut _6; _10 = &mut *_2, by way of _9
-          assigns ! (of-opd ! (load ! (from ! (stop !)) (look ! 20 refl))) (from ! (stop !)) (init ! 10 {τ = T′.mir} refl (state-typed 𝓤 H A W h was)) $
+          alloc1 ! (λ l₉. alloc1 ! (λ l₁₀. alloc1 ! (λ l₁₁. alloc1 ! (λ l₁₂. alloc0 ! $ params1 ! $
+          pass1 ! (init ! 22 {τ = T′.mir} refl (state-typed 𝓤 H A W h was)) $
+          pass1 ! (init ! 20 refl (tt, (tt, (record { fits = room .0 }, tt)))) $
+          pass1 ! (init ! 18 refl (shr-slice-lawful 𝓤 H A W (named 1) κ₁ u8 .typed y (yv ∷ []) p .0)) $
+          pass1 ! (init ! 16 refl (num n-fits)) $ pass1 ! (init ! 14 refl (num w-fits)) $
+          pass1 ! (init ! 12 {τ = R′.mir} refl (reading-typed 𝓤 H A W rd rd-is)) $ pass0 ! $
+          -- _7 = _1; _9 = &mut _7; _11 = &mut *_2, by way of _10
+          assigns ! (of-opd ! (load ! (from ! (stop !)) (look ! 22 refl))) (from ! (stop !)) (init ! 10 {τ = T′.mir} refl (state-typed 𝓤 H A W h was)) $
           assigns ! (addr ! (from ! (stop !))) (from ! (stop !)) (init ! 6 refl (tt, tt)) $
-          assigns ! (addr ! (from ! (fld ! refl (hop ! (look-in ! 18 (sub ! 0 refl (whole !))) (stop !))))) (from ! (stop !)) (init ! 4 refl (tt, tt)) $
+          assigns ! (addr ! (from ! (fld ! refl (hop ! (look-in ! 20 (sub ! 0 refl (whole !))) (stop !))))) (from ! (stop !)) (init ! 4 refl (tt, tt)) $
           assigns ! (agg ! (and-then ! (load ! (from ! (stop !)) (look ! 4 refl))
-          (and-then ! (load ! (from ! (fld ! refl (stop !))) (look-in ! 18 (sub ! 1 refl (whole !)))) (no-more !))))
+          (and-then ! (load ! (from ! (fld ! refl (stop !))) (look-in ! 20 (sub ! 1 refl (whole !)))) (no-more !))))
           (from ! (stop !)) (init ! 2 refl (tt, (tt, (record { fits = room .0 }, tt)))) $
-          move ! (10 ∷ 24 ∷ []) $ lends-local ! tt h l₆ (λ ν γ.
-          -- [the reference; the token; what waits; room for _11; …; _10; …; _9; …; _8; …; room for _7; …; (of _6) …; _5; …; down to room for _0; …; the slices' tokens;
-          -- what buf owns; what src owns, twice]: _7 = play_on(_8, _10, _3, _4, _5)
-          move ! (1 ∷ 26 ∷ []) $ join ! $ move ! (26 ∷ 27 ∷ []) $ join ! $ move ! (2 ∷ 1 ∷ 0 ∷ []) $ use3 W (raw (Callee .pre (to l₆ ν γ))) (goes l₆ ν γ) $
-          calls-at ! fm Callee known (to l₆ ν γ) (hands ! 8 refl (hands ! 4 refl (hands ! 17 refl (hands ! 15 refl (hands ! 13 refl (no-more !)))))) (λ v.
-          hears 𝓤 H A g.ended (g.clauses 𝓤 H A at-mem run) (to l₆ ν γ) ! tt (λ _ _. clause and clause and clause and clause) (λ r zs e.
+          move ! (10 ∷ 26 ∷ []) $ lends-local ! tt h l₇ (λ ν γ.
+          -- [the reference; the token; what waits; room for _12; …; _11; …; _10; …; _9; …; room for _8; …; (of _7) …; _6; …; down to room for _0; …; the slices' tokens;
+          -- what buf owns; what src owns, twice]: _8 = play_on(_9, _11, _3, _4, _5, _6)
+          move ! (1 ∷ 28 ∷ []) $ join ! $ move ! (28 ∷ 29 ∷ []) $ join ! $ move ! (2 ∷ 1 ∷ 0 ∷ []) $ use3 W (raw (Callee .pre (to l₇ ν γ))) (goes l₇ ν γ) $
+          calls-at ! fm Callee known (to l₇ ν γ) (hands ! 8 refl (hands ! 4 refl (hands ! 19 refl (hands ! 17 refl (hands ! 15 refl (hands ! 13 refl (no-more !))))))) (λ v.
+          hears 𝓤 H A g.ended (g.clauses 𝓤 H A at-mem run) (to l₇ ν γ) ! tt (λ _ _. clause and clause and clause and clause) (λ r zs e.
           move ! (2 ∷ []) $ fsplit ! $ move ! (1 ∷ []) $ fsplit ! $ fsplit ! $ move ! (1 ∷ []) $ feqL ! (λ l. move ! (1 ∷ []) $ drop ! $ move ! (2 ∷ 3 ∷ 1 ∷ 4 ∷ []) $
-          -- [what a Reach owns; the tokens; the last record; what waits; the last list; room for _11; …; down to room for _0; …; what src owns]
+          -- [what a Reach owns; the tokens; the last record; what waits; the last list; room for _12; …; down to room for _0; …; what src owns]
           peeks ! Q.the-row (Is Q.the-row) (shows 𝓤 H A Q.the-row) r (v ∷ []) (λ is.
-          land ! (from ! (stop !)) (init ! 13 {τ = reach-ty} {b = l₇} {o = 0} {v = v} refl (reach-fits 𝓤 H A W r is)) $ drop ! $
+          land ! (from ! (stop !)) (init ! 13 {τ = reach-ty} {b = l₈} {o = 0} {v = v} refl (reach-fits 𝓤 H A W r is)) $ drop ! $
           use1 W (‵ (flft (ν ∷ []) fullShare) ⊛ Tokens) (id⊢ 𝓤 _) $
-          comes-back ! tt (zs .0) l₆ (λ now.
-          -- [_6; the slices' tokens; the last list; room for _11; …; _10; …; _9; …; _8; …; _7; …; (of _6) …; _5; …; down to room for _0; …; what src owns]:
-          -- _11 = _6; _0 = Played { _11, _7.0, _7.1 }
+          comes-back ! tt (zs .0) l₇ (λ now.
+          -- [_7; the slices' tokens; the last list; room for _12; …; _11; …; _10; …; _9; …; _8; …; (of _7) …; _6; …; down to room for _0; …; what src owns]:
+          -- _12 = _7; _0 = Played { _12, _8.0, _8.1 }
           let made = played-is (zs .0) r now is in
           let played = played-of (zs .0) (r .at) (r .answer) in
-          rewrite ! 11 (λ (u : Val). ‵ (fat fullShare reach-ty l₇ 0 u)) (ap only (LL.tells Q.the-type Q′.the-laws r (v ∷ []) is)) refl $
+          rewrite ! 11 (λ (u : Val). ‵ (fat fullShare reach-ty l₈ 0 u)) (ap only (LL.tells Q.the-type Q′.the-laws r (v ∷ []) is)) refl $
           assigns ! (of-opd ! (load ! (from ! (stop !)) (look ! 0 refl))) (from ! (stop !)) (init ! 3 {τ = T′.mir} refl (state-typed 𝓤 H A W (zs .0) now)) $
           assigns ! (agg ! (and-then ! (load ! (from ! (stop !)) (look ! 3 refl))
           (and-then ! (load ! (from ! (fld ! {τ = tyInt w64} {d = 0} refl (stop !))) (look-in ! 11 {τ = tyInt w64} (in-reach ! 0 {d = 0} {τ = tyInt w64} refl)))
           (and-then ! (load ! (from ! (fld ! {τ = answer-ty} {d = 8} refl (stop !))) (look-in ! 11 {τ = answer-ty} (in-reach ! 1 {d = 8} {τ = answer-ty} refl))) (no-more !)))))
-          (from ! (stop !)) (init ! 24 {τ = played-ty} {b = l₀} {o = 0} {v = played-val played} refl (played-fits 𝓤 H A W played made)) $
-          returns ! (look ! 24 {τ = played-ty} refl) $
-          move ! (24 ∷ 25 ∷ 22 ∷ 23 ∷ 20 ∷ 21 ∷ 18 ∷ 19 ∷ 16 ∷ 17 ∷ 14 ∷ 15 ∷ 0 ∷ 13 ∷ 11 ∷ 12 ∷ 9 ∷ 10 ∷ 7 ∷ 8 ∷ 5 ∷ 6 ∷ 3 ∷ 4 ∷ []) $
-          gone ! $ gone ! $ gone ! $ gone ! $ gone ! $ gone ! $ gone ! $ gone ! $ gone ! $ gone ! $ gone ! $ gone ! $ free0 ! $
-          keep ! (0 ∷ 1 ∷ 2 ∷ []) $ by ! (exits was played (zs .1 .0) (said-played (found .played) (e .0) (e .1 .0) (e .1 .1 .0), e .1 .1 .1) l made)))))))))))))))))))
+          (from ! (stop !)) (init ! 26 {τ = played-ty} {b = l₀} {o = 0} {v = played-val played} refl (played-fits 𝓤 H A W played made)) $
+          returns ! (look ! 26 {τ = played-ty} refl) $
+          move ! (26 ∷ 27 ∷ 24 ∷ 25 ∷ 22 ∷ 23 ∷ 20 ∷ 21 ∷ 18 ∷ 19 ∷ 16 ∷ 17 ∷ 14 ∷ 15 ∷ 0 ∷ 13 ∷ 11 ∷ 12 ∷ 9 ∷ 10 ∷ 7 ∷ 8 ∷ 5 ∷ 6 ∷ 3 ∷ 4 ∷ []) $
+          gone ! $ gone ! $ gone ! $ gone ! $ gone ! $ gone ! $ gone ! $ gone ! $ gone ! $ gone ! $ gone ! $ gone ! $ gone ! $ free0 ! $
+          keep ! (0 ∷ 1 ∷ 2 ∷ []) $ by ! (exits was played (zs .1 .0) (said-played (found .played) (e .0) (e .1 .0) (e .1 .1 .0), e .1 .1 .1) l made))))))))))))))))))))
 
 pub play-spec : {M : Type 1} → stated.statement M
 unfolding code.routine
@@ -265,10 +269,11 @@ play-spec 𝓤 H 𝓜 𝓖 𝓡 =
     let buf = goes-gave-slice 𝓤 H A W 2 0 tt (plain (λ _. u8)) in
     let src = goes-none-slice 𝓤 H A W 2 (1 ∷ []) tt (plain (λ _. u8)) yes in
     let number = goes-none 𝓤 H A W 2 (λ _. usize) yes (λ κs x f. refl) in
+    let reading = goes-none 𝓤 H A W 2 (λ _. R.the-row) yes (λ κs x f. refl) in
     by-walk 𝓤 H 𝓜 𝓖 𝓡 code.env f.ended stayed (f.clauses 𝓤 H A (𝓜 .mem) (𝓡 .run)) #lender·play code.function (code.unfolded 𝓤 H 𝓜 𝓡)
-    (state, (buf, (src, (number, (number, tt)))))
-    (λ κs. (LL.vals T.the-type T′.the-laws, (slice-vals, (slice-vals, (uint-vals w64, (uint-vals w64, tt))))))
-    (λ κs. (LL.tells T.the-type T′.the-laws, (mut-slice-tells (named 0) (κs .0) u8, (shr-slice-tells (named 1) (κs .1 .0) u8, (uint-tells w64, (uint-tells w64, tt))))))
+    (state, (buf, (src, (number, (number, (reading, tt))))))
+    (λ κs. (LL.vals T.the-type T′.the-laws, (slice-vals, (slice-vals, (uint-vals w64, (uint-vals w64, (LL.vals R.the-type R′.the-laws, tt)))))))
+    (λ κs. (LL.tells T.the-type T′.the-laws, (mut-slice-tells (named 0) (κs .0) u8, (shr-slice-tells (named 1) (κs .1 .0) u8, (uint-tells w64, (uint-tells w64, (LL.tells R.the-type R′.the-laws, tt)))))))
     (λ fm κs qs bounds a _ are. walk 𝓤 H A (𝓜 .mem) (𝓡 .run) W (κs .0) (κs .1 .0) (qs .0) (qs .1 .0) (a .0)
     (a .1 .0 .ptr .0) (a .1 .0 .ptr .1) (a .1 .0 .name) (a .1 .0 .now) (a .1 .1 .0) (a .1 .1 .1 .0) (a .1 .1 .1 .1 .0)
-    (are .1 .1 .1 .0 .1) (are .1 .1 .1 .1 .0 .1) (Γ .C) (Γ .Λ) fm known (are .0) (are .1 .0 .0 .1) (are .1 .1 .0))
+    (are .1 .1 .1 .0 .1) (are .1 .1 .1 .1 .0 .1) (a .1 .1 .1 .1 .1 .0) (are .1 .1 .1 .1 .1 .0) (Γ .C) (Γ .Λ) fm known (are .0) (are .1 .0 .0 .1) (are .1 .1 .0))

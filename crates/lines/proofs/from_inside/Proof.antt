@@ -40,18 +40,18 @@ sub-left c = search needs
 
 add-total : tie.Need-add-total
 add-total c =
-    let a = c .before .before .before .before .before .before .before .args in
-    omega (arith, ready-all (a .w) (length (a .block .now) - a .from) (c .before .before .before .before .before .before .before .pre .2) .room)
+    let a = c .before .before .before .before .before .before .before .before .args in
+    omega (arith, ready-all (a .w) (length (a .block .now) - a .from) (c .before .before .before .before .before .before .before .before .pre .2) .room)
 
-add-t34 : tie.Need-add-t34
-add-t34 c = search needs
+add-t35 : tie.Need-add-t35
+add-t35 c = search needs
 
 returns : tie.Need-returns
 returns c =
-    let a = c .before .before .before .before .before .before .before .before .args in
-    let pre = c .before .before .before .before .before .before .before .before .pre in
+    let a = c .before .before .before .before .before .before .before .before .before .args in
+    let pre = c .before .before .before .before .before .before .before .before .before .pre in
     let put = c .before .before .put-in in
-    inside-cut _ windowOf (a .w) (a .block .now) (a .from) (a .out .now) (a .at) (pre .0) (pre .1) (pre .2) (put .result) (c .before .size-by .result)
+    inside-cut _ (windowOf (a .w .reading)) (a .w) (a .block .now) (a .from) (a .out .now) (a .at) (pre .0) (pre .1) (pre .2) (put .result) (c .before .size-by .result)
     (rw (part-all (a .block .now) (a .from)) at (put .ensures)) (c .before .size-by .ensures) (c .if1 .taken)
 
 slice-aggregate-told-frames : tie.Need-slice-aggregate-told-frames
@@ -59,12 +59,12 @@ slice-aggregate-told-frames c = search needs
 
 told-frames-requires : tie.Need-told-frames-requires
 told-frames-requires c κs =
-    let a = c .before .before .before .before .before .before .before .before .before .before .args in
-    let pre = c .before .before .before .before .before .before .before .before .before .before .pre in
+    let a = c .before .before .before .before .before .before .before .before .before .before .before .args in
+    let pre = c .before .before .before .before .before .before .before .before .before .before .before .pre in
     let put = c .before .before .before .before .put-in in
     let sized = c .before .before .before .size-by in
-    let f = inside-fits (a .quiet) windowOf (a .w) (a .block .now) (a .from) (a .out .now) (a .at) (pre .0) (pre .1) (pre .2) (put .result) (sized .result)
-    (rw (part-all (a .block .now) (a .from)) at (put .ensures)) (sized .ensures) (countOf (judgeOf windowOf (put .result) (sized .result))) refl
+    let f = inside-fits (a .quiet) (windowOf (a .w .reading)) (a .w) (a .block .now) (a .from) (a .out .now) (a .at) (pre .0) (pre .1) (pre .2) (put .result) (sized .result)
+    (rw (part-all (a .block .now) (a .from)) at (put .ensures)) (sized .ensures) (countOf (judgeOf (windowOf (a .w .reading)) (put .result) (sized .result))) refl
     (c .before .before .if1 .left) in
     let r = ready-all (a .w) (length (a .block .now) - a .from) (pre .2) in (
       record { begun = omega arith; fits = omega (arith, f .room); digits = pre .3; inside = omega (arith, pre .1); wide = omega (arith, pre .1) },
@@ -75,12 +75,12 @@ told-frames-requires c κs =
 
 sub-used : tie.Need-sub-used
 sub-used c =
-    let a = c .before .before .before .before .before .before .before .before .before .before .before .before .before .args in
-    let pre = c .before .before .before .before .before .before .before .before .before .before .before .before .before .pre in
+    let a = c .before .before .before .before .before .before .before .before .before .before .before .before .before .before .args in
+    let pre = c .before .before .before .before .before .before .before .before .before .before .before .before .before .before .pre in
     let put = c .before .before .before .before .before .before .before .put-in in
     let sized = c .before .before .before .before .before .before .size-by in
-    inside-fits (a .quiet) windowOf (a .w) (a .block .now) (a .from) (a .out .now) (a .at) (pre .0) (pre .1) (pre .2) (put .result) (sized .result)
-    (rw (part-all (a .block .now) (a .from)) at (put .ensures)) (sized .ensures) (countOf (judgeOf windowOf (put .result) (sized .result))) refl
+    inside-fits (a .quiet) (windowOf (a .w .reading)) (a .w) (a .block .now) (a .from) (a .out .now) (a .at) (pre .0) (pre .1) (pre .2) (put .result) (sized .result)
+    (rw (part-all (a .block .now) (a .from)) at (put .ensures)) (sized .ensures) (countOf (judgeOf (windowOf (a .w .reading)) (put .result) (sized .result))) refl
     (c .before .before .before .before .before .if1 .left) .more
 
 add-from-start : tie.Need-add-from-start
@@ -92,15 +92,15 @@ held-two c = search needs
 
 from-start-requires : tie.Need-from-start-requires
 from-start-requires c κs =
-    let a = c .before .before .before .before .before .before .before .before .before .before .before .before .before .before .args in
-    let pre = c .before .before .before .before .before .before .before .before .before .before .before .before .before .before .pre in
+    let a = c .before .before .before .before .before .before .before .before .before .before .before .before .before .before .before .args in
+    let pre = c .before .before .before .before .before .before .before .before .before .before .before .before .before .before .before .pre in
     let put = c .before .before .before .before .before .before .before .before .put-in in
     let sized = c .before .before .before .before .before .before .before .size-by in
     let two = held-two c in
-    let f = inside-fits (a .quiet) windowOf (a .w) (a .block .now) (a .from) (a .out .now) (a .at) (pre .0) (pre .1) (pre .2) (put .result) (sized .result)
-    (rw (part-all (a .block .now) (a .from)) at (put .ensures)) (sized .ensures) (countOf (judgeOf windowOf (put .result) (sized .result))) refl
+    let f = inside-fits (a .quiet) (windowOf (a .w .reading)) (a .w) (a .block .now) (a .from) (a .out .now) (a .at) (pre .0) (pre .1) (pre .2) (put .result) (sized .result)
+    (rw (part-all (a .block .now) (a .from)) at (put .ensures)) (sized .ensures) (countOf (judgeOf (windowOf (a .w .reading)) (put .result) (sized .result))) refl
     (c .before .before .before .before .before .before .if1 .left) in
-    let o = held-one _ windowOf (put .result) (sized .result) (a .w .offset) (a .w .frames) (a .w .accepted) _ _ _ _
+    let o = held-one _ (windowOf (a .w .reading)) (put .result) (sized .result) (a .w .offset) (a .w .frames) (a .w .accepted) _ _ _ _
     (c .before .before .before .told-frames .ensures) two (sized .ensures) (pre .1) in (
       f .within,
       omega (arith, o .line .inside, wrote-long (o .line)),
@@ -117,14 +117,14 @@ same-length c = search needs
 
 returns-2 : tie.Need-returns-2
 returns-2 c =
-    let a = c .before .before .before .before .before .before .before .before .before .before .before .before .before .before .before .before .before .args in
-    let pre = c .before .before .before .before .before .before .before .before .before .before .before .before .before .before .before .before .before .pre in
+    let a = c .before .before .before .before .before .before .before .before .before .before .before .before .before .before .before .before .before .before .args in
+    let pre = c .before .before .before .before .before .before .before .before .before .before .before .before .before .before .before .before .before .before .pre in
     let put = c .before .before .before .before .before .before .before .before .before .before .before .put-in in
     let sized = c .before .before .before .before .before .before .before .before .before .before .size-by in
     let two = held-two (c .before .before .before) in
-    let o = held-one _ windowOf (put .result) (sized .result) (a .w .offset) (a .w .frames) (a .w .accepted) _ _ _ _
+    let o = held-one _ (windowOf (a .w .reading)) (put .result) (sized .result) (a .w .offset) (a .w .frames) (a .w .accepted) _ _ _ _
     (c .before .before .before .before .before .before .told-frames .ensures) two (sized .ensures) (pre .1) in
-    inside-line _ windowOf (a .w) (a .block .now) (a .from) (a .out .now) (a .at) (pre .0) (pre .1) (pre .2) (put .result) (sized .result)
+    inside-line _ (windowOf (a .w .reading)) (a .w) (a .block .now) (a .from) (a .out .now) (a .at) (pre .0) (pre .1) (pre .2) (put .result) (sized .result)
     (rw (part-all (a .block .now) (a .from)) at (put .ensures)) (sized .ensures)
     (c .before .before .before .before .before .before .before .before .before .if1 .left) _ _ _ (o .line) refl _ _
     (rw (o .past, o .told, o .good) at (c .before .before .from-start .ensures))
@@ -142,7 +142,7 @@ from-inside-spec =
     size-by-requires
     sub-left
     add-total
-    add-t34
+    add-t35
     returns
     slice-aggregate-told-frames
     told-frames-requires

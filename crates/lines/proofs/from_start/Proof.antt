@@ -25,18 +25,18 @@ returns : tie.Need-returns
 returns c =
     let pre = c .before .before .before .before .before .before .before .before .before .pre in
     let G = c .before .before .before .before .told-frames .ensures in
-    let A = gone-along _ windowOf _ _ _ _ _ _ _ (pre .0) (pre .1) (pre .3) (pre .4) (pre .5) _ _ G in
+    let A = gone-along _ (windowOf _) _ _ _ _ _ _ _ _ (pre .0) (pre .1) (pre .3) (pre .4) (pre .5) _ _ G in
     let f = G .full (c .before .if1 .taken) in
-    rw (c .start .ensures) (along-full _ windowOf _ _ _ _ _ _ _ _ _ _ _ A (f .0) (omega (arith, f .1, wrote-long (G .text), G .text .inside)))
+    rw (c .start .ensures) (along-full _ (windowOf _) _ _ _ _ _ _ _ _ _ _ _ _ A (f .0) (omega (arith, f .1, wrote-long (G .text), G .text .inside)))
 
 sub-left : tie.Need-sub-left
-sub-left c = frames-far _ windowOf _ _ (c .before .before .before .before .before .before .before .before .pre .0) (c .before .before .before .told-frames .ensures .run) .1
+sub-left c = frames-far _ (windowOf _) _ _ (c .before .before .before .before .before .before .before .before .pre .0) (c .before .before .before .told-frames .ensures .run) .1
 
 sub-cut : tie.Need-sub-cut
 sub-cut c =
     omega (
       arith,
-      frames-far _ windowOf _ _ (c .before .before .before .before .before .before .before .before .pre .0)
+      frames-far _ (windowOf _) _ _ (c .before .before .before .before .before .before .before .before .pre .0)
           (c .before .before .before .told-frames .ensures .run) .1,
     )
 
@@ -44,7 +44,7 @@ part-cut-start : tie.Need-part-cut-start
 part-cut-start c =
     omega (
       arith,
-      frames-far _ windowOf _ _ (c .before .before .before .before .before .before .before .before .pre .0)
+      frames-far _ (windowOf _) _ _ (c .before .before .before .before .before .before .before .before .pre .0)
           (c .before .before .before .told-frames .ensures .run) .1,
     )
 
@@ -54,8 +54,8 @@ part-cut-end c = search needs
 cut-requires : tie.Need-cut-requires
 cut-requires c κs = search needs
 
-add-t25 : tie.Need-add-t25
-add-t25 c = search needs
+add-t26 : tie.Need-add-t26
+add-t26 c = search needs
 
 same-length-2 : tie.Need-same-length-2
 same-length-2 c = search needs
@@ -65,11 +65,11 @@ returns-2 c =
     let pre = c .before .before .before .before .before .before .before .before .before .before .pre in
     let told = c .before .before .before .before .before .told-frames in
     let G = told .ensures in
-    let A = gone-along _ windowOf _ _ _ _ _ _ _ (pre .0) (pre .1) (pre .3) (pre .4) (pre .5) _ _ G in
+    let A = gone-along _ (windowOf _) _ _ _ _ _ _ _ _ (pre .0) (pre .1) (pre .3) (pre .4) (pre .5) _ _ G in
     let f = G .cut (c .before .before .if1 .left) in
     rw
     (c .cut .ensures, part-all (c .before .before .before .before .before .before .before .before .before .before .args .block .now) (told .result .at))
-    (along-end _ windowOf _ _ _ _ _ _ _ _ _ _ _ A (frames-far _ windowOf _ _ (pre .0) (G .run) .1) (f .0) (λ l. omega (arith, f .1 l, wrote-long (G .text))))
+    (along-end _ (windowOf _) _ _ _ _ _ _ _ _ _ _ _ _ A (frames-far _ (windowOf _) _ _ (pre .0) (G .run) .1) (f .0) (λ l. omega (arith, f .1 l, wrote-long (G .text))))
 
 pub from-start-spec : {M : Type 1} → statement M
 from-start-spec =
@@ -84,6 +84,6 @@ from-start-spec =
     part-cut-start
     part-cut-end
     cut-requires
-    add-t25
+    add-t26
     same-length-2
     returns-2)

@@ -13,8 +13,8 @@ use Rattle.lines.proofs.looked.Tie as tie
 plain-requires : tie.Need-plain-requires
 plain-requires c κs = search needs
 
-shared-slice-read-t7 : tie.Need-shared-slice-read-t7
-shared-slice-read-t7 c =
+shared-slice-read-t8 : tie.Need-shared-slice-read-t8
+shared-slice-read-t8 c =
     let p = c .before .before .before .before in
     let e = sym (c .before .before .plain .ensures) ∙ c .before .if1 .taken in
     omega (arith, plain-accepts (now (p .args .s)) (now (p .args .rows)) (p .args .size) (λ i. c .shared-slice-known2 .given i .fits) (p .pre .1) e (omega (arith, p .pre .0)) .1)
@@ -23,7 +23,7 @@ returns : tie.Need-returns
 returns c =
     let p = c .before .before .before .before in
     let e = sym (c .before .before .plain .ensures) ∙ c .before .if1 .taken in
-    sym (plain-look (now (p .args .s)) (now (p .args .rows)) (p .args .size) (λ i. c .shared-slice-known2 .given i .fits) (p .pre .1) e (p .pre .0))
+    sym (plain-look (p .args .reading) (now (p .args .s)) (now (p .args .rows)) (p .args .size) (λ i. c .shared-slice-known2 .given i .fits) (p .pre .1) e (p .pre .0))
 
 judge-requires : tie.Need-judge-requires
 judge-requires c κs = search needs
@@ -39,7 +39,7 @@ looked-spec =
     tie.close
     (tie.spec
     plain-requires
-    shared-slice-read-t7
+    shared-slice-read-t8
     returns
     judge-requires
     look-of-requires

@@ -16,28 +16,28 @@ use Rattle.lines.proofs.told_accepted.Statement.{statement}
 use Rattle.lines.proofs.told_accepted.Tie as tie
 
 abbrev Inv-loop : tie.InvT-loop
-Inv-loop s have from offset rows table out₀ to quiet i₀ o₀ count₀ last out i o count = Telling quiet windowOf s have from offset out₀ to out i o count
+Inv-loop s have from offset rows table out₀ to quiet reading i₀ o₀ count₀ last out i o count = Telling quiet (windowOf reading) s have from offset out₀ to out i o count
 
 abbrev μ-loop : tie.MeasureT-loop
-μ-loop s have from offset rows table out₀ to quiet i₀ o₀ count₀ last out i o count = have - i
+μ-loop s have from offset rows table out₀ to quiet reading i₀ o₀ count₀ last out i o count = have - i
 
 sub-last : tie.Need-sub-last Inv-loop μ-loop
 sub-last c = c .before .before .before .pre .0 .wide
 
 loop-holds : tie.Need-loop-holds Inv-loop μ-loop
-loop-holds c = telling-start _ windowOf _ _ _ _ _ _ (c .before .before .before .pre .0 .begun) (c .before .before .before .pre .0 .inside) (c .before .before .before .pre .0 .wide)
+loop-holds c = telling-start _ (windowOf _) _ _ _ _ _ _ (c .before .before .before .pre .0 .begun) (c .before .before .before .pre .0 .inside) (c .before .before .before .pre .0 .wide)
 
 same-length : tie.Need-same-length Inv-loop μ-loop
 same-length c = wrote-long (c .before .loop .inv .text)
 
 returns : tie.Need-returns Inv-loop μ-loop
-returns c = telling-cut _ windowOf _ _ _ _ _ _ _ _ _ _ (c .before .loop .inv) (inl (c .if1 .taken)) (λ l. absurd (omega (arith, l, c .if1 .taken)))
+returns c = telling-cut _ (windowOf _) _ _ _ _ _ _ _ _ _ _ (c .before .loop .inv) (inl (c .if1 .taken)) (λ l. absurd (omega (arith, l, c .if1 .taken)))
 
 same-length-2 : tie.Need-same-length-2 Inv-loop μ-loop
 same-length-2 c = wrote-long (c .before .before .loop .inv .text)
 
 returns-2 : tie.Need-returns-2 Inv-loop μ-loop
-returns-2 c = telling-full _ windowOf _ _ _ _ _ _ _ _ _ _ (c .before .before .loop .inv) (c .before .if1 .left) (c .if2 .taken)
+returns-2 c = telling-full _ (windowOf _) _ _ _ _ _ _ _ _ _ _ (c .before .before .loop .inv) (c .before .if1 .left) (c .if2 .taken)
 
 add-if3 : tie.Need-add-if3 Inv-loop μ-loop
 add-if3 c = omega (arith, c .before .if1 .left)
@@ -46,7 +46,7 @@ same-length-3 : tie.Need-same-length-3 Inv-loop μ-loop
 same-length-3 c = wrote-long (c .before .before .before .loop .inv .text)
 
 returns-3 : tie.Need-returns-3 Inv-loop μ-loop
-returns-3 c = telling-cut _ windowOf _ _ _ _ _ _ _ _ _ _ (c .before .before .before .loop .inv) (inr (inl (c .if3 .taken))) (λ _. c .before .if2 .left)
+returns-3 c = telling-cut _ (windowOf _) _ _ _ _ _ _ _ _ _ _ (c .before .before .before .loop .inv) (inr (inl (c .if3 .taken))) (λ _. c .before .if2 .left)
 
 shared-slice-read-size-by : tie.Need-shared-slice-read-size-by Inv-loop μ-loop
 shared-slice-read-size-by c = omega (arith, c .before .if3 .left)
@@ -69,7 +69,7 @@ same-length-4 c = wrote-long (c .before .before .before .before .before .before 
 returns-4 : tie.Need-returns-4 Inv-loop μ-loop
 returns-4 c =
     let l = c .before .before .before .before .before .before .before .loop in
-    telling-cut _ windowOf _ _ _ _ _ _ _ _ _ _ (l .inv)
+    telling-cut _ (windowOf _) _ _ _ _ _ _ _ _ _ _ (l .inv)
     (inr (inr (rw (← size-here (c .before .before .before .before .before .before .before .before .before .before .before .args .s .now) (l .i) (c .before .size-by .result) (omega (arith, c .before .before .before .before .if3 .left)) (c .before .size-by .ensures)) (c .if4 .taken))))
     (λ _. c .before .before .before .before .before .if2 .left)
 
@@ -105,9 +105,9 @@ returns-5 c =
     let z = size-here (a .s .now) (l .i) (sized .result) (omega (arith, c .before .before .before .before .before .before .before .before .before .if3 .left)) (sized .ensures) in
     let e = rw (part-all (a .s .now) (l .i)) at (c .before .before .before .looked .ensures) in
     rw (c .stopped-at .ensures, e)
-    (telling-refused _ windowOf _ _ _ _ _ _ _ _ _ _ (l .inv) (sized .result)
+    (telling-refused _ (windowOf _) _ _ _ _ _ _ _ _ _ _ (l .inv) (sized .result)
     (record { before = c .before .before .before .before .before .before .before .before .before .before .before .if1 .left; sized = omega (arith, c .before .before .before .before .before .before .before .before .before .if3 .left); whole = omega (arith, z, c .before .before .before .before .before .if4 .left) }) z (c .before .before .before .before .before .before .before .before .before .before .if2 .left)
-    (judgeOf windowOf _ _) refl _ _ (sym e ∙ c .before .enum-told .given .1))
+    (judgeOf (windowOf _) _ _) refl _ _ (sym e ∙ c .before .enum-told .given .1))
 
 sub-accepted-line : tie.Need-sub-accepted-line Inv-loop μ-loop
 sub-accepted-line c = omega (arith, c .before .before .before .before .before .before .before .before .before .before .before .before .loop .inv .ahead)
@@ -122,8 +122,8 @@ accepted-line-requires c κs =
     let sized = c .before .before .before .before .before .before .before .size-by in
     let z = size-here (a .s .now) (l .i) (sized .result) (omega (arith, c .before .before .before .before .before .before .before .before .before .before .if3 .left)) (sized .ensures) in
     let e = rw (part-all (a .s .now) (l .i)) at (c .before .before .before .before .looked .ensures) in
-    let t = tag-told (judgeOf windowOf _ _) _ (sym e ∙ c .before .before .what .given .1) in
-    let d = accepted-size _ _ (t .0) (t .1) in
+    let t = tag-told (judgeOf (windowOf _) _ _) _ (sym e ∙ c .before .before .what .given .1) in
+    let d = accepted-size _ _ _ (t .0) (t .1) in
     (omega (arith, d .0), omega (arith, d .1), c .before .before .before .before .before .before .before .before .before .before .before .before .before .before .before .before .before .pre .0 .digits, omega (arith, c .before .before .before .before .before .before .before .before .before .before .before .if2 .left, l .inv .wide, wrote-long (l .inv .text)))
 
 add-i : tie.Need-add-i Inv-loop μ-loop
@@ -144,8 +144,8 @@ loop-again c =
     let sized = c .before .before .before .before .before .before .before .before .before .before .size-by in
     let z = size-here (a .s .now) (l .i) (sized .result) (omega (arith, c .before .before .before .before .before .before .before .before .before .before .before .before .before .if3 .left)) (sized .ensures) in
     let e = rw (part-all (a .s .now) (l .i)) at (c .before .before .before .before .before .before .before .looked .ensures) in
-    let t = tag-told (judgeOf windowOf _ _) _ (sym e ∙ c .before .before .before .before .before .what .given .1) in
-    telling-more _ windowOf _ _ _ _ _ _ _ _ _ _ (l .inv) (sized .result)
+    let t = tag-told (judgeOf (windowOf _) _ _) _ (sym e ∙ c .before .before .before .before .before .what .given .1) in
+    telling-more _ (windowOf _) _ _ _ _ _ _ _ _ _ _ (l .inv) (sized .result)
     (record { before = c .before .before .before .before .before .before .before .before .before .before .before .before .before .before .before .if1 .left; sized = omega (arith, c .before .before .before .before .before .before .before .before .before .before .before .before .before .if3 .left); whole = omega (arith, z, c .before .before .before .before .before .before .before .before .before .if4 .left) }) z (c .before .before .before .before .before .before .before .before .before .before .before .before .before .before .if2 .left)
     (t .0) (t .1) _ _ (rw (t .2) (c .before .before .accepted-line .ensures))
 

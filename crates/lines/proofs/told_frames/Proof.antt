@@ -11,20 +11,20 @@ use Rattle.lines.proofs.told_frames.Statement.{statement}
 use Rattle.lines.proofs.told_frames.Tie as tie
 
 abbrev Inv-loop : tie.InvT-loop
-Inv-loop s have from rows table out₀ to offset frames accepted quiet i₀ o₀ off₀ fr₀ acc₀ out i o off fr acc =
-    Passing quiet windowOf s have from offset frames accepted out₀ to out i o off fr acc
+Inv-loop s have from rows table out₀ to offset frames accepted quiet reading i₀ o₀ off₀ fr₀ acc₀ out i o off fr acc =
+    Passing quiet (windowOf reading) s have from offset frames accepted out₀ to out i o off fr acc
 
 abbrev μ-loop : tie.MeasureT-loop
-μ-loop s have from rows table out₀ to offset frames accepted quiet i₀ o₀ off₀ fr₀ acc₀ out i o off fr acc = have - i
+μ-loop s have from rows table out₀ to offset frames accepted quiet reading i₀ o₀ off₀ fr₀ acc₀ out i o off fr acc = have - i
 
 -- the accepted frames lie behind one another, two bytes or more each, within the bytes
 moved : (c : tie.After-told-accepted Inv-loop μ-loop)
     → (c .before .before .loop .i + 2 * c .told-accepted .result .count ≤ c .told-accepted .result .at)
     × (c .told-accepted .result .at ≤ c .before .before .before .before .before .before .args .have)
-moved c = far _ windowOf _ _ _ _ _ _ _ _ _ _ _ _ _ _ (c .before .before .loop .inv) _ _ (c .told-accepted .ensures)
+moved c = far _ (windowOf _) _ _ _ _ _ _ _ _ _ _ _ _ _ _ (c .before .before .loop .inv) _ _ (c .told-accepted .ensures)
 
 loop-holds : tie.Need-loop-holds Inv-loop μ-loop
-loop-holds c = passing-start _ windowOf _ _ _ _ _ _ _ _ (c .before .before .before .pre .0 .begun) (c .before .before .before .pre .0 .inside) (c .before .before .before .pre .2) (c .before .before .before .pre .3)
+loop-holds c = passing-start _ (windowOf _) _ _ _ _ _ _ _ _ (c .before .before .before .pre .0 .begun) (c .before .before .before .pre .0 .inside) (c .before .before .before .pre .2) (c .before .before .before .pre .3)
 
 told-accepted-requires : tie.Need-told-accepted-requires Inv-loop μ-loop
 told-accepted-requires c κs = (
@@ -60,7 +60,7 @@ same-length : tie.Need-same-length Inv-loop μ-loop
 same-length c = wrote-long (c .before .before .before .before .before .before .told-accepted .ensures .text) ∙ wrote-long (c .before .before .before .before .before .before .before .before .loop .inv .text)
 
 returns : tie.Need-returns Inv-loop μ-loop
-returns c = passing-ends _ windowOf _ _ _ _ _ _ _ _ _ _ _ _ _ _ (c .before .before .before .before .before .before .before .before .loop .inv) _ _ (c .before .before .before .before .before .before .told-accepted .ensures) _ (c .is-full .ensures) (not-bad (c .before .match .keys2))
+returns c = passing-ends _ (windowOf _) _ _ _ _ _ _ _ _ _ _ _ _ _ _ (c .before .before .before .before .before .before .before .before .loop .inv) _ _ (c .before .before .before .before .before .before .told-accepted .ensures) _ (c .is-full .ensures) (not-bad (c .before .match .keys2))
 
 refused-line-requires : tie.Need-refused-line-requires Inv-loop μ-loop
 refused-line-requires c κs = omega (arith, halts-bad (c .before .before .before .before .before .before .before .before .told-accepted .ensures) _ _ _ (c .before .before .why .given .1) .0)
@@ -86,7 +86,7 @@ loop-less c =
     omega (arith, b .1, b .2, b .3, moved (c .before .before .before .before .before .before .before .before .before .before .before), c .before .before .before .before .before .before .before .before .before .before .before .before .before .loop .inv .within)
 
 loop-again : tie.Need-loop-again Inv-loop μ-loop
-loop-again c = passing-on _ windowOf _ _ _ _ _ _ _ _ _ _ _ _ _ _ (c .before .before .before .before .before .before .before .before .before .before .before .before .before .loop .inv) _ _ (c .before .before .before .before .before .before .before .before .before .before .before .told-accepted .ensures) _ _ _ (c .before .before .before .before .before .why .given .1) _ _ (c .before .before .refused-line .ensures)
+loop-again c = passing-on _ (windowOf _) _ _ _ _ _ _ _ _ _ _ _ _ _ _ (c .before .before .before .before .before .before .before .before .before .before .before .before .before .loop .inv) _ _ (c .before .before .before .before .before .before .before .before .before .before .before .told-accepted .ensures) _ _ _ (c .before .before .before .before .before .why .given .1) _ _ (c .before .before .refused-line .ensures)
 
 pub told-frames-spec : {M : Type 1} → statement M
 told-frames-spec =

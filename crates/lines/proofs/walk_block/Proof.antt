@@ -21,12 +21,12 @@ held-long c = search needs
 returns : tie.Need-returns
 returns c =
     let a = c .before .before .before .args in
-    called-used _ windowOf (a .w) (a .block .now) (a .from) (a .out .now) (a .at) (c .if1 .taken)
+    called-used _ (windowOf (a .w .reading)) (a .w) (a .block .now) (a .from) (a .out .now) (a .at) (c .if1 .taken)
 
 returns-2 : tie.Need-returns-2
 returns-2 c =
     let a = c .before .before .before .before .args in
-    called-full _ windowOf (a .w) (a .block .now) (a .from) (a .out .now) (a .at) (c .before .if1 .left) (omega (arith, c .if2 .taken))
+    called-full _ (windowOf (a .w .reading)) (a .w) (a .block .now) (a .from) (a .out .now) (a .at) (c .before .if1 .left) (omega (arith, c .if2 .taken))
 
 sub-if3 : tie.Need-sub-if3
 sub-if3 c = search needs
@@ -34,7 +34,7 @@ sub-if3 c = search needs
 returns-3 : tie.Need-returns-3
 returns-3 c =
     let a = c .before .before .before .before .before .args in
-    called-full _ windowOf (a .w) (a .block .now) (a .from) (a .out .now) (a .at) (c .before .before .if1 .left) (c .if3 .taken)
+    called-full _ (windowOf (a .w .reading)) (a .w) (a .block .now) (a .from) (a .out .now) (a .at) (c .before .before .if1 .left) (c .if3 .taken)
 
 sub-left : tie.Need-sub-left
 sub-left c = search needs
@@ -46,10 +46,10 @@ returns-4 : tie.Need-returns-4
 returns-4 c =
     let a = c .before .before .before .before .before .before .before .args in
     let i = c .before .before .before .before .if1 in
-    going-refused _ windowOf _ _ _ _ _ _ _ _ _
-    (going-start _ windowOf (a .block .now) (a .from) (a .out .now) (a .at) (a .w) (omega (arith, i .left)) (omega (arith, c .before .before .before .if2 .left)))
-    (stepOf windowOf (a .w) (drop (a .from) (a .block .now))) (i .left) (c .before .before .if3 .left) refl
-    (ready-refused windowOf (a .w) (drop (a .from) (a .block .now)) (ap (readyOf (a .w)) (length-drop (a .from) (a .block .now)) ∙ sym (c .before .ready .ensures) ∙ not-true _ (c .if4 .taken)))
+    going-refused _ (windowOf (a .w .reading)) _ _ _ _ _ _ _ _ _
+    (going-start _ (windowOf (a .w .reading)) (a .block .now) (a .from) (a .out .now) (a .at) (a .w) (omega (arith, i .left)) (omega (arith, c .before .before .before .if2 .left)))
+    (stepOf (windowOf (a .w .reading)) (a .w) (drop (a .from) (a .block .now))) (i .left) (c .before .before .if3 .left) refl
+    (ready-refused (windowOf (a .w .reading)) (a .w) (drop (a .from) (a .block .now)) (ap (readyOf (a .w)) (length-drop (a .from) (a .block .now)) ∙ sym (c .before .ready .ensures) ∙ not-true _ (c .if4 .taken)))
 
 rows-requires : tie.Need-rows-requires
 rows-requires c κs = search needs
@@ -60,9 +60,9 @@ slice-aggregate-from-start c = search needs
 from-start-requires : tie.Need-from-start-requires
 unfolding pairs pairsFrom
 from-start-requires c κs =
-    let rows = c .before .before .before .before .before in
+    let rows = c .before .before .before .before .before .before in
     let ready = rows .before .before in
-    let a = c .before .before .before .before .before .before .before .before .before .before .before .before .before .args in
+    let a = c .before .before .before .before .before .before .before .before .before .before .before .before .before .before .args in
     let r = ready-all (a .w) (length (a .block .now) - a .from) (sym (ready .ready .ensures) ∙ not-false _ (rows .before .if4 .left)) in (
       omega (arith, ready .before .before .before .if1 .left),
       omega (arith, ready .before .before .if2 .left),
@@ -79,12 +79,12 @@ same-length c = search needs
 
 returns-5 : tie.Need-returns-5
 returns-5 c =
-    let rows = c .before .before .before .before .before .before .before .before in
+    let rows = c .before .before .before .before .before .before .before .before .before in
     let ready = rows .before .before in
-    let a = c .before .before .before .before .before .before .before .before .before .before .before .before .before .before .before .before .args in
-    let l = held-long (c .before .before .before .before .before .before .before .before .before .before .before .before .before .before) in
+    let a = c .before .before .before .before .before .before .before .before .before .before .before .before .before .before .before .before .before .args in
+    let l = held-long (c .before .before .before .before .before .before .before .before .before .before .before .before .before .before .before) in
     rw
-    (start-of (a .w) (length (a .block .now) - a .from) l (sym (ready .ready .ensures) ∙ not-false _ (rows .before .if4 .left)) (c .before .before .before .before .before .before .if5 .taken))
+    (start-of (a .w) (length (a .block .now) - a .from) l (sym (ready .ready .ensures) ∙ not-false _ (rows .before .if4 .left)) (c .before .before .before .before .before .before .before .if5 .taken))
     at (c .before .before .from-start .ensures)
 
 slice-aggregate-from-inside : tie.Need-slice-aggregate-from-inside

@@ -65,7 +65,7 @@ fetch-returns : (t : ℕ) → fetch-lts.Need-returns (fetch-claims t) (fetch-at 
 fetch-returns t c =
     let a = c .before .before .before .before .before .before .before .before .args in
     let m = c .before .before .before .before .make-room-of in
-    let e = room-halts (a .src .now) (a .width) (a .s) (a .buf .now) (a .at) (m .result) (m .last .1 .0) (m .ensures .0) (m .ensures .1)
+    let e = room-halts (a .reading) (a .src .now) (a .width) (a .s) (a .buf .now) (a .at) (m .result) (m .last .1 .0) (m .ensures .0) (m .ensures .1)
     (not-ready (c .match .keys2)) in
     (ap (λ (o : Out). o .played) e, ap (λ (o : Out). o .buffer) e)
 
@@ -103,7 +103,7 @@ fetch-returns-2 t c =
     let m = c .before .before .before .before .before .before .before .before .before .before .before .before .make-room-of in
     let f = c .before .before .before .before .before .fill in
     let told = c .before .before .told-of in
-    let e = told-halts (a .src .now) (a .width) (a .s) (a .buf .now) (a .at) (m .result) (m .last .1 .0) (m .ensures .0) (m .ensures .1)
+    let e = told-halts (a .reading) (a .src .now) (a .width) (a .s) (a .buf .now) (a .at) (m .result) (m .last .1 .0) (m .ensures .0) (m .ensures .1)
     (c .before .before .before .before .before .before .before .enum-told .given .1) (f .result) (f .last .0) (told .result) (f .ensures .0)
     (f .ensures .1) (told .ensures) (not-ready (c .match2 .keys2)) in
     (ap (λ (o : Out). o .played) e, ap (λ (o : Out). o .buffer) e)
@@ -118,7 +118,7 @@ fetch-try-window-requires t c κs =
     let e = f .ensures .0 in
     let p = pre .1 in
     let q = pre .0 in
-    let h = brings (a .src .now) (a .width) (a .s) (a .buf .now) (a .at) (m .result) (m .last .1 .0) (m .ensures .0) (m .ensures .1)
+    let h = brings (a .reading) (a .src .now) (a .width) (a .s) (a .buf .now) (a .at) (m .result) (m .last .1 .0) (m .ensures .0) (m .ensures .1)
     (c .before .before .before .before .before .before .before .before .before .enum-told .given .1) (f .result) (f .last .0) (told .result)
     (f .ensures .0) (f .ensures .1) (told .ensures) (c .before .enum-told2 .given .1) in
     (omega arith, omega arith)
@@ -135,7 +135,7 @@ fetch-returns-3 t c =
     let f = c .before .before .before .before .before .before .before .before .before .before .fill in
     let told = c .before .before .before .before .before .before .before .told-of in
     let tries = c .before .before .try-window in
-    let e = told-goes (a .src .now) (a .width) (a .s) (a .buf .now) (a .at) (m .result) (m .last .1 .0) (m .ensures .0) (m .ensures .1)
+    let e = told-goes (a .reading) (a .src .now) (a .width) (a .s) (a .buf .now) (a .at) (m .result) (m .last .1 .0) (m .ensures .0) (m .ensures .1)
     (c .before .before .before .before .before .before .before .before .before .before .before .before .enum-told .given .1) (f .result) (f .last .0)
     (told .result) (f .ensures .0) (f .ensures .1) (told .ensures)
     (c .before .before .before .before .before .before .before .before .before .before .before .before .before .before .before .before .before .before .before .before .before .pre .1)
@@ -155,7 +155,7 @@ try-window-returns : (t : ℕ) → try-window-lts.Need-returns (try-window-claim
 try-window-returns t c =
     let a = c .before .before .before .before .before .before .args in
     let n = c .before .before .next-of in
-    let e = try-halts (a .src .now) (a .width) (a .s) (a .buf .now) (a .at) (n .result) (n .ensures) (not-wants (c .match .keys2)) in
+    let e = try-halts (a .reading) (a .src .now) (a .width) (a .s) (a .buf .now) (a .at) (n .result) (n .ensures) (not-wants (c .match .keys2)) in
     (ap (λ (o : Out). o .played) e, ap (λ (o : Out). o .buffer) e)
 
 try-window-fetch-requires : (t : ℕ) → try-window-lts.Need-fetch-requires (try-window-claims t) (try-window-at t) try-window.Post
@@ -172,7 +172,7 @@ try-window-returns-2 : (t : ℕ) → try-window-lts.Need-returns-2 (try-window-c
 try-window-returns-2 t c =
     let a = c .before .before .before .before .before .before .before .before .before .before .before .args in
     let n = c .before .before .before .before .before .before .before .next-of in
-    let e = try-goes (a .src .now) (a .width) (a .s) (a .buf .now) (a .at) (n .result) (n .ensures)
+    let e = try-goes (a .reading) (a .src .now) (a .width) (a .s) (a .buf .now) (a .at) (n .result) (n .ensures)
     (c .before .before .before .before .enum-told .given .1) in
     (c .before .before .fetch .ensures .0 ∙ ap (λ (o : Out). o .played) e, c .before .before .fetch .ensures .1 ∙ ap (λ (o : Out). o .buffer) e)
 

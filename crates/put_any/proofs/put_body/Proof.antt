@@ -126,6 +126,18 @@ enum-known-b-20 c = search needs
 put-trading-action-requires : tie.Need-put-trading-action-requires
 put-trading-action-requires c κs = search needs
 
+enum-known-b-21 : tie.Need-enum-known-b-21
+enum-known-b-21 c = search needs
+
+put-operational-halt-requires : tie.Need-put-operational-halt-requires
+put-operational-halt-requires c κs = search needs
+
+enum-known-b-22 : tie.Need-enum-known-b-22
+enum-known-b-22 c = search needs
+
+put-direct-listing-requires : tie.Need-put-direct-listing-requires
+put-direct-listing-requires c κs = search needs
+
 same-length : tie.Need-same-length
 same-length c = search needs
 
@@ -246,6 +258,18 @@ same-length-20 c = search needs
 returns-20 : tie.Need-returns-20
 returns-20 c = body-is _ (c .before .before .before .before .before .b20 .given .1) (c .before .before .put-trading-action .ensures)
 
+same-length-21 : tie.Need-same-length-21
+same-length-21 c = search needs
+
+returns-21 : tie.Need-returns-21
+returns-21 c = body-is _ (c .before .before .before .before .before .b21 .given .1) (c .before .before .put-operational-halt .ensures)
+
+same-length-22 : tie.Need-same-length-22
+same-length-22 c = search needs
+
+returns-22 : tie.Need-returns-22
+returns-22 c = body-is _ (c .before .before .before .before .before .b22 .given .1) (c .before .before .put-direct-listing .ensures)
+
 pub put-body-spec : {M : Type 1} → statement M
 put-body-spec =
     tie.close
@@ -290,6 +314,10 @@ put-body-spec =
     put-system-event-requires
     enum-known-b-20
     put-trading-action-requires
+    enum-known-b-21
+    put-operational-halt-requires
+    enum-known-b-22
+    put-direct-listing-requires
     same-length
     returns
     same-length-2
@@ -329,4 +357,8 @@ put-body-spec =
     same-length-19
     returns-19
     same-length-20
-    returns-20)
+    returns-20
+    same-length-21
+    returns-21
+    same-length-22
+    returns-22)

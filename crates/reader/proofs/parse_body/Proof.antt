@@ -1,7 +1,9 @@
 -- `reader::parse_body` meets its contract.
 -- Assumes nothing.
 use mathlib.Core.Logic.{⊎-elim}
-use Rattle.reader.proofs.Tags.{unknown}
+use mathlib.Core.Path.{_∙_}
+use Rattle.reader.proofs.Tags.{not-base}
+use Rattle.format.specs.Rows.{bodyOf, bodyIn}
 use borrow.Author.Needs.{needs}
 use Rattle.reader.proofs.parse_body.Statement.{statement}
 use Rattle.reader.proofs.parse_body.Tie as tie
@@ -67,7 +69,11 @@ parse-order-cancelled-requires c κs = search needs
 parse-reg-sho-restriction-requires : tie.Need-parse-reg-sho-restriction-requires
 parse-reg-sho-restriction-requires c κs = search needs
 
+parse-later-requires : tie.Need-parse-later-requires
+parse-later-requires c κs = search needs
+
 returns : tie.Need-returns
+unfolding bodyOf bodyIn
 returns c =
     ⊎-elim
     (λ e. rw e (rw e at (c .parse-add-order .ensures)))
@@ -75,64 +81,83 @@ returns c =
     (c .before .match .keys1)
 
 returns-2 : tie.Need-returns-2
+unfolding bodyOf bodyIn
 returns-2 c = rw (c .before .match .keys2) (c .parse-broken-trade .ensures)
 
 returns-3 : tie.Need-returns-3
+unfolding bodyOf bodyIn
 returns-3 c = rw (c .before .match .keys3) (c .parse-delete-order .ensures)
 
 returns-4 : tie.Need-returns-4
+unfolding bodyOf bodyIn
 returns-4 c = rw (c .before .match .keys4) (c .parse-order-executed-with-price .ensures)
 
 returns-5 : tie.Need-returns-5
+unfolding bodyOf bodyIn
 returns-5 c = rw (c .before .match .keys5) (c .parse-order-executed .ensures)
 
 returns-6 : tie.Need-returns-6
+unfolding bodyOf bodyIn
 returns-6 c = rw (c .before .match .keys6) (c .parse-trading-action .ensures)
 
 returns-7 : tie.Need-returns-7
+unfolding bodyOf bodyIn
 returns-7 c = rw (c .before .match .keys7) (c .parse-imbalance-indicator .ensures)
 
 returns-8 : tie.Need-returns-8
+unfolding bodyOf bodyIn
 returns-8 c = rw (c .before .match .keys8) (c .parse-luld-auction-collar .ensures)
 
 returns-9 : tie.Need-returns-9
+unfolding bodyOf bodyIn
 returns-9 c = rw (c .before .match .keys9) (c .parse-ipo-quoting-period .ensures)
 
 returns-10 : tie.Need-returns-10
+unfolding bodyOf bodyIn
 returns-10 c = rw (c .before .match .keys10) (c .parse-participant-position .ensures)
 
 returns-11 : tie.Need-returns-11
+unfolding bodyOf bodyIn
 returns-11 c = rw (c .before .match .keys11) (c .parse-retail-price-improvement-indicator .ensures)
 
 returns-12 : tie.Need-returns-12
+unfolding bodyOf bodyIn
 returns-12 c = rw (c .before .match .keys12) (c .parse-noncross-trade .ensures)
 
 returns-13 : tie.Need-returns-13
+unfolding bodyOf bodyIn
 returns-13 c = rw (c .before .match .keys13) (c .parse-cross-trade .ensures)
 
 returns-14 : tie.Need-returns-14
+unfolding bodyOf bodyIn
 returns-14 c = rw (c .before .match .keys14) (c .parse-stock-directory .ensures)
 
 returns-15 : tie.Need-returns-15
+unfolding bodyOf bodyIn
 returns-15 c = rw (c .before .match .keys15) (c .parse-system-event .ensures)
 
 returns-16 : tie.Need-returns-16
+unfolding bodyOf bodyIn
 returns-16 c = rw (c .before .match .keys16) (c .parse-replace-order .ensures)
 
 returns-17 : tie.Need-returns-17
+unfolding bodyOf bodyIn
 returns-17 c = rw (c .before .match .keys17) (c .parse-mwcb-decline-level .ensures)
 
 returns-18 : tie.Need-returns-18
+unfolding bodyOf bodyIn
 returns-18 c = rw (c .before .match .keys18) (c .parse-breach .ensures)
 
 returns-19 : tie.Need-returns-19
+unfolding bodyOf bodyIn
 returns-19 c = rw (c .before .match .keys19) (c .parse-order-cancelled .ensures)
 
 returns-20 : tie.Need-returns-20
+unfolding bodyOf bodyIn
 returns-20 c = rw (c .before .match .keys20) (c .parse-reg-sho-restriction .ensures)
 
 returns-21 : tie.Need-returns-21
-returns-21 c = unknown _ _ (c .match .rest)
+returns-21 c = c .parse-later .ensures ∙ not-base _ _ _ (c .before .match .rest)
 
 pub parse-body-spec : {M : Type 1} → statement M
 parse-body-spec =
@@ -158,6 +183,7 @@ parse-body-spec =
     parse-breach-requires
     parse-order-cancelled-requires
     parse-reg-sho-restriction-requires
+    parse-later-requires
     returns
     returns-2
     returns-3

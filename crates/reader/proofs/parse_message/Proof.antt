@@ -15,7 +15,7 @@ enum-told : tie.Need-enum-told
 enum-told c = search needs
 
 returns : tie.Need-returns
-returns c = no-header _ (c .before .before .read-header .ensures) (c .enum-told .given .1)
+returns c = no-header _ _ (c .before .before .read-header .ensures) (c .enum-told .given .1)
 
 parse-body-requires : tie.Need-parse-body-requires
 parse-body-requires c κs = search needs
@@ -33,13 +33,13 @@ enum-known-e : tie.Need-enum-known-e
 enum-known-e c = search needs
 
 returns-2 : tie.Need-returns-2
-returns-2 c = whole _ (c .before .before .before .before .before .before .before .read-header .ensures) (c .before .before .before .before .before .h .given .1) (c .before .before .before .parse-body .ensures) (c .before .b .given .1)
+returns-2 c = whole _ _ (c .before .before .before .before .before .before .before .read-header .ensures) (c .before .before .before .before .before .h .given .1) (c .before .before .before .parse-body .ensures) (c .before .b .given .1)
 
 returns-3 : tie.Need-returns-3
-returns-3 c = stopped _ (c .before .before .before .before .before .before .before .before .before .read-header .ensures) (c .before .before .before .before .before .before .before .h .given .1) (c .before .before .before .before .before .parse-body .ensures) (c .before .before .before .b2 .given .1) (c .enum-told2 .given .1)
+returns-3 c = stopped _ _ (c .before .before .before .before .before .before .before .before .before .read-header .ensures) (c .before .before .before .before .before .before .before .h .given .1) (c .before .before .before .before .before .parse-body .ensures) (c .before .before .before .b2 .given .1) (c .enum-told2 .given .1)
 
 returns-4 : tie.Need-returns-4
-returns-4 c = stopped _ (c .before .before .before .before .before .before .before .before .before .before .read-header .ensures) (c .before .before .before .before .before .before .before .before .h .given .1) (c .before .before .before .before .before .before .parse-body .ensures) (c .before .before .before .before .b2 .given .1) (c .before .e .given .1)
+returns-4 c = stopped _ _ (c .before .before .before .before .before .before .before .before .before .before .read-header .ensures) (c .before .before .before .before .before .before .before .before .h .given .1) (c .before .before .before .before .before .before .parse-body .ensures) (c .before .before .before .before .b2 .given .1) (c .before .e .given .1)
 
 pub parse-message-spec : {M : Type 1} → statement M
 parse-message-spec =

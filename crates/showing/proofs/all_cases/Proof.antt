@@ -8,10 +8,10 @@ use Rattle.showing.proofs.all_cases.Statement.{statement}
 use Rattle.showing.proofs.all_cases.Tie as tie
 
 abbrev Inv-loop : tie.InvT-loop
-Inv-loop table starts out₀ held₀ h₀ left₀ out held h left = (h .n ≤ length held) × (h .at ≤ length out) × (6144 ≤ length out) × (length out ≡ length out₀) × (length held ≡ 262144)
+Inv-loop table starts out₀ reading held₀ h₀ left₀ out held h left = (h .n ≤ length held) × (h .at ≤ length out) × (6144 ≤ length out) × (length out ≡ length out₀) × (length held ≡ 262144)
 
 abbrev μ-loop : tie.MeasureT-loop
-μ-loop table starts out₀ held₀ h₀ left₀ out held h left = left
+μ-loop table starts out₀ reading held₀ h₀ left₀ out held h left = left
 
 list-buffer-requires : tie.Need-list-buffer-requires Inv-loop μ-loop
 list-buffer-requires c κs = search needs

@@ -10,10 +10,10 @@ use Rattle.showing.proofs.drain.Statement.{statement}
 use Rattle.showing.proofs.drain.Tie as tie
 
 abbrev Inv-loop : tie.InvT-loop
-Inv-loop b table starts out₀ at0 s₀ at₀ out s at = (6144 ≤ length out) × (at ≤ length out) × (length out ≡ length out₀)
+Inv-loop b table starts out₀ at0 reading s₀ at₀ out s at = (6144 ≤ length out) × (at ≤ length out) × (length out ≡ length out₀)
 
 abbrev μ-loop : tie.MeasureT-loop
-μ-loop b table starts out₀ at0 s₀ at₀ out s at = 18446744073709551616 - s .messages
+μ-loop b table starts out₀ at0 reading s₀ at₀ out s at = 18446744073709551616 - s .messages
 
 loop-holds : tie.Need-loop-holds Inv-loop μ-loop
 loop-holds c = search needs
@@ -40,7 +40,7 @@ line-requires : tie.Need-line-requires Inv-loop μ-loop
 line-requires c κs = search needs
 
 loop-less : tie.Need-loop-less Inv-loop μ-loop
-loop-less c = omega (arith, c .before .before .before .before .before .before .before .before .before .before .before .next .ok, counted (c .before .before .before .before .before .before .before .before .before .before .before .before .loop .s) (c .before .before .before .before .before .before .before .before .before .before .before .before .before .before .before .before .before .args .b .now) (c .before .before .before .before .before .before .before .before .before .before .before .next .result) (c .before .before .before .before .before .before .before .before .before .before .before .next .ensures) (search needs))
+loop-less c = omega (arith, c .before .before .before .before .before .before .before .before .before .before .before .next .ok, counted (c .before .before .before .before .before .before .before .before .before .before .before .before .before .before .before .before .before .args .reading) (c .before .before .before .before .before .before .before .before .before .before .before .before .loop .s) (c .before .before .before .before .before .before .before .before .before .before .before .before .before .before .before .before .before .args .b .now) (c .before .before .before .before .before .before .before .before .before .before .before .next .result) (c .before .before .before .before .before .before .before .before .before .before .before .next .ensures) (search needs))
 
 loop-again : tie.Need-loop-again Inv-loop μ-loop
 loop-again c = search needs

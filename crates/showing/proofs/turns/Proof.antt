@@ -8,10 +8,10 @@ use Rattle.showing.proofs.turns.Statement.{statement}
 use Rattle.showing.proofs.turns.Tie as tie
 
 abbrev Inv-loop : tie.InvT-loop
-Inv-loop raw list i table starts out₀ at buf₀ c₀ left₀ out buf c left = (c .at ≤ length out) × (6144 ≤ length out) × (length out ≡ length out₀) × (length buf ≡ 8192)
+Inv-loop raw list i table starts out₀ at reading buf₀ c₀ left₀ out buf c left = (c .at ≤ length out) × (6144 ≤ length out) × (length out ≡ length out₀) × (length buf ≡ 8192)
 
 abbrev μ-loop : tie.MeasureT-loop
-μ-loop raw list i table starts out₀ at buf₀ c₀ left₀ out buf c left = left
+μ-loop raw list i table starts out₀ at reading buf₀ c₀ left₀ out buf c left = left
 
 fresh-requires : tie.Need-fresh-requires Inv-loop μ-loop
 fresh-requires c κs = search needs

@@ -9,10 +9,10 @@ use Rattle.showing.proofs.whole_cases.Statement.{statement}
 use Rattle.showing.proofs.whole_cases.Tie as tie
 
 abbrev Inv-loop : tie.InvT-loop
-Inv-loop list table starts out₀ at c₀ out c = (c .i ≤ length list) × (c .at ≤ length out) × (6144 ≤ length out) × (length out ≡ length out₀)
+Inv-loop list table starts out₀ at reading c₀ out c = (c .i ≤ length list) × (c .at ≤ length out) × (6144 ≤ length out) × (length out ≡ length out₀)
 
 abbrev μ-loop : tie.MeasureT-loop
-μ-loop list table starts out₀ at c₀ out c = length list - c .i
+μ-loop list table starts out₀ at reading c₀ out c = length list - c .i
 
 loop-holds : tie.Need-loop-holds Inv-loop μ-loop
 loop-holds c = search needs

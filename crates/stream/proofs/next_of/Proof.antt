@@ -13,9 +13,9 @@ use Rattle.stream.proofs.next_of.Tie as tie
 
 -- behind the tests the reader's answer decides
 decided : (c : tie.After-parse-message) {w : Window} → c .parse-message .result ≡ w
-    → Decides (c .before .before .before .before .before .before .args .s) (c .before .before .before .before .before .before .args .buf .now) w
+    → Decides (c .before .before .before .before .before .before .args .reading) (c .before .before .before .before .before .before .args .s) (c .before .before .before .before .before .before .args .buf .now) w
 decided c d =
-    decides _ _ (c .parse-message .result) (c .before .before .before .before .if1 .left) (c .before .before .before .if2 .left) (c .before .before .if3 .left) (c .parse-message .ensures) d
+    decides _ _ _ (c .parse-message .result) (c .before .before .before .before .if1 .left) (c .before .before .before .if2 .left) (c .before .before .if3 .left) (c .parse-message .ensures) d
 
 refused-requires : tie.Need-refused-requires
 refused-requires c κs = search needs
@@ -56,13 +56,13 @@ refused-requires-4 c κs = search needs
 returns-4 : tie.Need-returns-4
 returns-4 c = simp (decided (c .before .before .before .before .before) (c .before .before .before .message .given .1), eq-eqb _ _ (c .before .if4 .taken)) (c .refused4 .ensures)
 
-add-t18 : tie.Need-add-t18
-add-t18 c =
-    let w = sym (exactly _ (c .before .before .before .before .parse-message .result) (c .before .before .before .before .parse-message .ensures)) ∙ c .before .before .message .given .1 in
-    omega (arith, within (c .before .before .before .before .before .before .before .before .before .before .args .s) (c .before .before .before .before .before .before .before .before .before .before .args .buf .now) _ _ w)
-
 add-t19 : tie.Need-add-t19
-add-t19 c = search needs
+add-t19 c =
+    let w = sym (exactly _ _ (c .before .before .before .before .parse-message .result) (c .before .before .before .before .parse-message .ensures)) ∙ c .before .before .message .given .1 in
+    omega (arith, within (c .before .before .before .before .before .before .before .before .before .before .args .reading) (c .before .before .before .before .before .before .before .before .before .before .args .s) (c .before .before .before .before .before .before .before .before .before .before .args .buf .now) _ _ w)
+
+add-t20 : tie.Need-add-t20
+add-t20 c = search needs
 
 enum-told : tie.Need-enum-told
 enum-told c = search needs
@@ -98,8 +98,8 @@ next-of-spec =
     enum-known-message
     refused-requires-4
     returns-4
-    add-t18
     add-t19
+    add-t20
     enum-told
     enum-known-number
     marked-requires

@@ -4,19 +4,19 @@ use Prim.Native.Nat.{_-_}
 use mathlib.Core.Path.{sym, _∙_}
 use native.Mathlib.Omega.{arith}
 use borrow.Author.Tests.{not-true, not-false}
-use Rattle.tallying.specs.Counts.{Skimmed, none}
+use Rattle.tallying.specs.Counts.{Counted, none}
 use Rattle.tallying.proofs.Answers.{message-is, message-not}
 use Rattle.tallying.proofs.Counting.{counter-below, rises, again, counts}
-use Rattle.tallying.proofs.Skimming.{onward, rising}
+use Rattle.tallying.proofs.Skimming.{onward, skims-rise}
 use borrow.Author.Needs.{needs}
 use Rattle.tallying.proofs.drain.Statement.{statement}
 use Rattle.tallying.proofs.drain.Tie as tie
 
 abbrev Inv-loop : tie.InvT-loop
-Inv-loop b rows count₀ s₀ count s = Skimmed b s₀ count₀ s count
+Inv-loop b rows count₀ reading s₀ count s = Counted reading b s₀ count₀ s count
 
 abbrev μ-loop : tie.MeasureT-loop
-μ-loop b rows count₀ s₀ count s = 18446744073709551616 - s .messages
+μ-loop b rows count₀ reading s₀ count s = 18446744073709551616 - s .messages
 
 loop-holds : tie.Need-loop-holds Inv-loop μ-loop
 loop-holds c = record { taken = none; counted = c .before .before .pre .0 }
@@ -37,7 +37,7 @@ returns : tie.Need-returns Inv-loop μ-loop
 returns c =
     let p = onward (c .before .before .before .before .before .before .before .loop .inv) (c .before .before .before .before .before .skim .ensures) in
     let q = message-not _ (sym (c .before .message .ensures) ∙ not-true _ (c .if1 .taken)) in
-    record { last = c .before .before .before .before .before .skim .result; taken = p .taken; step = c .before .before .next-of .ensures; stops = q; counted = counts _ _ _ _ (p .counted) (c .before .before .next-of .ensures) q }
+    record { last = c .before .before .before .before .before .skim .result; taken = p .taken; step = c .before .before .next-of .ensures; stops = q; counted = counts _ _ _ _ _ (p .counted) (c .before .before .next-of .ensures) q }
 
 counter-requires : tie.Need-counter-requires Inv-loop μ-loop
 counter-requires c κs = search needs
@@ -54,7 +54,7 @@ slice-read-count c = omega (arith, c .before .before .before .before .before .be
 add-count : tie.Need-add-count Inv-loop μ-loop
 add-count c =
     let t = message-is (c .before .before .before .before .next-of .result .answer) (sym (c .before .before .before .message .ensures) ∙ not-false _ (c .before .before .if1 .left)) in
-    omega (arith, c .before .before .before .before .next-of .ok, rises _ _ _ _ (c .before .before .before .before .next-of .ensures) (t .is), counter-below (c .before .counter .result) (c .before .before .before .before .before .before .before .skim .ensures .counted))
+    omega (arith, c .before .before .before .before .next-of .ok, rises _ _ _ _ _ (c .before .before .before .before .next-of .ensures) (t .is), counter-below (c .before .counter .result) (c .before .before .before .before .before .before .before .skim .ensures .counted))
 
 mul-count-2 : tie.Need-mul-count-2 Inv-loop μ-loop
 mul-count-2 c = omega (arith, c .before .before .before .before .before .before .before .skim .ensures .counted .all)
@@ -65,7 +65,7 @@ slice-write-count c = omega (arith, c .before .before .before .before .before .b
 loop-less : tie.Need-loop-less Inv-loop μ-loop
 loop-less c =
     let t = message-is (c .before .before .before .before .before .next-of .result .answer) (sym (c .before .before .before .before .message .ensures) ∙ not-false _ (c .before .before .before .if1 .left)) in
-    omega (arith, c .before .before .before .before .before .next-of .ok, rises _ _ _ _ (c .before .before .before .before .before .next-of .ensures) (t .is), rising (c .before .before .before .before .before .before .before .before .skim .ensures .taken))
+    omega (arith, c .before .before .before .before .before .next-of .ok, rises _ _ _ _ _ (c .before .before .before .before .before .next-of .ensures) (t .is), skims-rise (c .before .before .before .before .before .before .before .before .skim .ensures))
 
 loop-again : tie.Need-loop-again Inv-loop μ-loop
 loop-again c =

@@ -1,11 +1,12 @@
 -- `tallying::print_tally` meets its contract.
 -- Assumes nothing.
 use Prim.Native.Nat.{ℕ}
-use mathlib.Core.Path.{refl, sym, ap, _∙_}
+use mathlib.Core.Path.{_≡_, refl, sym, ap, subst, _∙_}
 use mathlib.Core.List.{List}
 use native.Mathlib.Omega.{arith}
 use lib.ListN.{replicate, take}
 use lib.Seq.{length-take-le}
+use Rattle.format.specs.declared.Reading.{Reading}
 use Rattle.words.specs.Words.{endingBy}
 use Rattle.text.specs.Decimal.{Wrote}
 use Rattle.text.proofs.Laws.{wrote-long, wrote-front}
@@ -16,6 +17,9 @@ use Rattle.tallying.specs.Reads.{Tallied, Printed}
 use borrow.Author.Needs.{needs}
 use Rattle.tallying.proofs.print_tally.Statement.{statement}
 use Rattle.tallying.proofs.print_tally.Tie as tie
+
+reading-requires : tie.Need-reading-requires
+reading-requires c κs = search needs
 
 slice-aggregate-run : tie.Need-slice-aggregate-run
 slice-aggregate-run c = search needs
@@ -45,10 +49,14 @@ slice-aggregate-write-2 c =
     sym (length-take-le _ _ (omega (arith, put .inside, wrote-long put)))
 
 -- the counters start at zero
-printed : {count : List ℕ} {last : Turn} {out after : List ℕ} {n : ℕ} → Tallied (replicate 256 0) last count
-    → Wrote (tallyOf count (last .step .state .messages) (last .step .answer)) out 0 after n → Printed count last (take n after)
+printed : {rd : Reading} {count : List ℕ} {last : Turn} {out after : List ℕ} {n : ℕ} → Tallied rd (replicate 256 0) last count
+    → Wrote (tallyOf count (last .step .state .messages) (last .step .answer)) out 0 after n → Printed rd count last (take n after)
 unfolding sum
 printed t w = record { start = _; none = record { all = refl; total = refl }; tallied = t; lines = wrote-front w }
+
+-- the reading is the one that the words ask for
+asked : {rd rd′ : Reading} {count : List ℕ} {last : Turn} {text : List ℕ} → rd ≡ rd′ → Printed rd count last text → Printed rd′ count last text
+asked {count = count} {last = last} {text = text} e p = subst (λ (rd : Reading). Printed rd count last text) e p
 
 write-requires : tie.Need-write-requires
 write-requires c κs = printed (c .before .before .before .before .before .before .before .before .before .run .ensures) (c .before .before .before .put-tally .ensures)
@@ -71,7 +79,8 @@ returns c = record {
   reads = c .before .before .before .before .write .ensures .0;
   count = _;
   text = _;
-  printed = printed (c .before .before .before .before .before .before .before .before .before .before .before .before .before .before .run .ensures) (c .before .before .before .before .before .before .before .before .put-tally .ensures);
+  printed = asked (c .before .before .before .before .before .before .before .before .before .before .before .before .before .before .before .before .reading .ensures)
+      (printed (c .before .before .before .before .before .before .before .before .before .before .before .before .before .before .run .ensures) (c .before .before .before .before .before .before .before .before .put-tally .ensures));
   bytes = c .before .before .before .before .write .ensures .1;
 }
 
@@ -79,6 +88,7 @@ pub print-tally-spec : {M : Type 1} → statement M
 print-tally-spec =
     tie.close
     (tie.spec
+    reading-requires
     slice-aggregate-run
     run-requires
     slice-aggregate-put-tally

@@ -15,10 +15,10 @@ use Rattle.tallying.proofs.run.Statement.{statement}
 use Rattle.tallying.proofs.run.Tie as tie
 
 abbrev Inv-loop : tie.InvT-loop
-Inv-loop count₀ buf₀ rows s₀ b₀ count buf s b = Counters count (s .messages) × (length buf ≡ 8192) × Going count₀ s b buf count
+Inv-loop count₀ reading buf₀ rows s₀ b₀ count buf s b = Counters count (s .messages) × (length buf ≡ 8192) × Going reading count₀ s b buf count
 
 abbrev μ-loop : tie.MeasureT-loop
-μ-loop count₀ buf₀ rows s₀ b₀ count buf s b = 18446744073709551616 - s .«read_calls»
+μ-loop count₀ reading buf₀ rows s₀ b₀ count buf s b = 18446744073709551616 - s .«read_calls»
 
 rows-requires : tie.Need-rows-requires Inv-loop μ-loop
 rows-requires c κs = search needs
@@ -30,7 +30,7 @@ unread-requires : tie.Need-unread-requires Inv-loop μ-loop
 unread-requires c κs = search needs
 
 loop-holds : tie.Need-loop-holds Inv-loop μ-loop
-loop-holds c = rw (c .before .fresh .ensures) (c .before .before .before .before .pre, search needs, going-start _ _ _ (c .unread .ensures .1) (search needs))
+loop-holds c = rw (c .before .fresh .ensures) (c .before .before .before .before .pre, search needs, going-start _ _ _ _ (c .unread .ensures .1) (search needs))
 
 slice-aggregate-drain : tie.Need-slice-aggregate-drain Inv-loop μ-loop
 slice-aggregate-drain c = search needs

@@ -20,7 +20,7 @@ abbrev μ-loop : tie.MeasureT-loop
 μ-loop b rows count₀ s₀ count s = 18446744073709551616 - s .messages
 
 loop-holds : tie.Need-loop-holds Inv-loop μ-loop
-loop-holds c = record { taken = none; counted = c .before .before .pre .0 }
+loop-holds c = record { taken = λ _. none; counted = c .before .before .pre .0 }
 
 same-length : tie.Need-same-length Inv-loop μ-loop
 same-length c = c .before .loop .inv .counted .all ∙ sym (c .before .before .before .before .pre .0 .all)

@@ -35,7 +35,7 @@ returns c =
     let p = c .before .before .before .before .before .before .before in
     let a = p .before .before .before .args in
     let w = c .before .before .write .ensures in
-    let r = read-then-write (now (a .s)) (now (a .buf)) (p .parse-message .result) (q .0 .0) (q .0 .1 .0) (λ i. p .before .before .shared-slice-known .given i .fits)
+    let r = read-then-write (a .reading) (now (a .s)) (now (a .buf)) (p .parse-message .result) (q .0 .0) (q .0 .1 .0) (λ i. p .before .before .shared-slice-known .given i .fits)
     (p .parse-message .ensures) (q .1) (w .0) (w .1 .0) in
     (r .0, (r .1, r .2))
 
@@ -43,7 +43,7 @@ returns-2 : tie.Need-returns-2
 returns-2 c =
     let p = c .before .before in
     let a = p .before .before .before .args in
-    let r = read-no-more (now (a .s)) (now (a .buf)) (p .parse-message .result) Incomplete NotThere (p .parse-message .ensures) (c .enum-told .given .1)
+    let r = read-no-more (a .reading) (now (a .s)) (now (a .buf)) (p .parse-message .result) Incomplete NotThere (p .parse-message .ensures) (c .enum-told .given .1)
     refl refl (λ m n q. let z : _≡_ {A = ℕ} 0 1 = cc in omega arith) in
     (r .0, (r .1, r .2))
 
@@ -54,7 +54,7 @@ returns-3 c =
     let a = p .before .before .before .args in
     let n = q .0 .0 in
     let i = q .0 .1 .0 in
-    let r = read-no-more (now (a .s)) (now (a .buf)) (p .parse-message .result) (Refused n i) (NotRead n i) (p .parse-message .ensures) (q .1)
+    let r = read-no-more (a .reading) (now (a .s)) (now (a .buf)) (p .parse-message .result) (Refused n i) (NotRead n i) (p .parse-message .ensures) (q .1)
     refl refl (λ m n q. let z : _≡_ {A = ℕ} 0 1 = cc in omega arith) in
     (r .0, (r .1, r .2))
 

@@ -20,7 +20,7 @@ returns c =
     let p = c .before .before .before .before in
     let a = p .before .before .before .args in
     let w = p .write .ensures in
-    let r = write-then-read (a .m) (now (a .buf)) (w .0) (w .1 .0) (w .1 .1) (c .parse-message .ensures) in
+    let r = write-then-read (a .reading) (a .m) (now (a .buf)) (w .0) (w .1 .0) (w .1 .1) (c .parse-message .ensures) in
     (r .0, (r .1, r .2))
 
 pub write-read-spec : {M : Type 1} → statement M

@@ -33,7 +33,7 @@ turned-requires c κs = search needs
 returns : tie.Need-returns
 unfolding judgeOf
 returns c =
-    let p = exactly _ (c .before .parse-message .result) (c .before .parse-message .ensures) in
+    let p = exactly _ _ (c .before .parse-message .result) (c .before .parse-message .ensures) in
     rw (c .turned .ensures, p, c .before .before .before .least2 .ensures, c .before .before .before .before .least .ensures, take-least (min (c .before .before .before .before .before .before .args .size) 52) (now (c .before .before .before .before .before .before .args .s)))
 
 pub judge-spec : {M : Type 1} → statement M

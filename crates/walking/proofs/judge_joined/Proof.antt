@@ -22,10 +22,10 @@ judge-requires c κs = search needs
 
 returns : tie.Need-returns
 returns c =
-    let a = c .before .before .before .before .before .before .args in
+    let a = c .before .before .before .before .before .before .before .args in
     let l : length (a .w .held) ≡ 52 = search needs in
     c .judge .ensures
-    ∙ rw (c .before .one-of .ensures, c .before .before .before .join .ensures) (judge-either windowOf (a .w .seen) (a .w .held) (a .piece .now) (a .size) l (c .before .before .before .before .before .before .pre))
+    ∙ rw (c .before .one-of .ensures, c .before .before .before .join .ensures) (judge-either (windowOf (a .w .reading)) (a .w .seen) (a .w .held) (a .piece .now) (a .size) l (c .before .before .before .before .before .before .before .pre))
 
 pub judge-joined-spec : {M : Type 1} → statement M
 judge-joined-spec =

@@ -12,13 +12,13 @@ use Rattle.walking.proofs.more.Tie as tie
 put-in-requires : tie.Need-put-in-requires
 put-in-requires c κs = search needs
 
-add-t7 : tie.Need-add-t7
-add-t7 c = search needs
+add-t8 : tie.Need-add-t8
+add-t8 c = search needs
 
 returns : tie.Need-returns
 returns c =
-    let a = c .before .before .before .args in
+    let a = c .before .before .before .before .args in
     ap (λ (h : List ℕ). moreOf (a .w) h (length (a .piece .now)) .state) (c .put-in .ensures)
 
 pub more-spec : {M : Type 1} → statement M
-more-spec = tie.close (tie.spec put-in-requires add-t7 returns)
+more-spec = tie.close (tie.spec put-in-requires add-t8 returns)

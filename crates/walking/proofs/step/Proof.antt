@@ -18,7 +18,7 @@ refused-requires : tie.Need-refused-requires
 refused-requires c κs = search needs
 
 returns : tie.Need-returns
-returns c = c .refused .ensures ∙ by-known windowOf (c .before .before .before .before .before .before .args .w) (c .before .before .before .before .before .before .args .piece .now) (c .before .before .before .before .plan-step .ensures .0) (c .before .before .p .given .1)
+returns c = c .refused .ensures ∙ by-known (windowOf (c .before .before .before .before .before .before .args .w .reading)) (c .before .before .before .before .before .before .args .w) (c .before .before .before .before .before .before .args .piece .now) (c .before .before .before .before .plan-step .ensures .0) (c .before .before .p .given .1)
 
 enum-told : tie.Need-enum-told
 enum-told c = search needs
@@ -29,7 +29,7 @@ wants-more-requires c κs =
     take-fits (a .w) (length (a .piece .now)) (c .before .before .plan-step .result) (c .enum-told .given .1) (c .before .before .plan-step .ensures .1)
 
 returns-2 : tie.Need-returns-2
-returns-2 c = c .wants-more .ensures ∙ by-known windowOf (c .before .before .before .before .before .args .w) (c .before .before .before .before .before .args .piece .now) (c .before .before .before .plan-step .ensures .0) (c .before .enum-told .given .1)
+returns-2 c = c .wants-more .ensures ∙ by-known (windowOf (c .before .before .before .before .before .args .w .reading)) (c .before .before .before .before .before .args .w) (c .before .before .before .before .before .args .piece .now) (c .before .before .before .plan-step .ensures .0) (c .before .enum-told .given .1)
 
 enum-known-p-2 : tie.Need-enum-known-p-2
 enum-known-p-2 c = search needs
@@ -41,7 +41,7 @@ done-requires c κs =
     end-fits (a .w) (length (a .piece .now)) (p .0 .0) (p .0 .1 .0) (c .before .before .before .plan-step .result) (p .1) (c .before .before .before .plan-step .ensures .1)
 
 returns-3 : tie.Need-returns-3
-returns-3 c = c .done .ensures ∙ by-known windowOf (c .before .before .before .before .before .before .args .w) (c .before .before .before .before .before .before .args .piece .now) (c .before .before .before .before .plan-step .ensures .0) (c .before .before .p2 .given .1)
+returns-3 c = c .done .ensures ∙ by-known (windowOf (c .before .before .before .before .before .before .args .w .reading)) (c .before .before .before .before .before .before .args .w) (c .before .before .before .before .before .before .args .piece .now) (c .before .before .before .before .plan-step .ensures .0) (c .before .before .p2 .given .1)
 
 pub step-spec : {M : Type 1} → statement M
 step-spec =

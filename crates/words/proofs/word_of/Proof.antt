@@ -23,8 +23,17 @@ is-requires-2 c κs = search needs
 returns-2 : tie.Need-returns-2
 returns-2 c = simp (sym (c .before .before .before .before .is .ensures), c .before .before .before .if1 .left, sym (c .before .is2 .ensures), c .if2 .taken)
 
+slice-aggregate-is-3 : tie.Need-slice-aggregate-is-3
+slice-aggregate-is-3 c = search needs
+
+is-requires-3 : tie.Need-is-requires-3
+is-requires-3 c κs = search needs
+
 returns-3 : tie.Need-returns-3
-returns-3 c = simp (sym (c .before .before .before .before .is .ensures), c .before .before .before .if1 .left, sym (c .before .is2 .ensures), c .if2 .left)
+returns-3 c = simp (sym (c .before .before .before .before .before .before .before .is .ensures), c .before .before .before .before .before .before .if1 .left, sym (c .before .before .before .before .is2 .ensures), c .before .before .before .if2 .left, sym (c .before .is3 .ensures), c .if3 .taken)
+
+returns-4 : tie.Need-returns-4
+returns-4 c = simp (sym (c .before .before .before .before .before .before .before .is .ensures), c .before .before .before .before .before .before .if1 .left, sym (c .before .before .before .before .is2 .ensures), c .before .before .before .if2 .left, sym (c .before .is3 .ensures), c .if3 .left)
 
 pub word-of-spec : {M : Type 1} → statement M
 word-of-spec =
@@ -36,4 +45,7 @@ word-of-spec =
     slice-aggregate-is-2
     is-requires-2
     returns-2
-    returns-3)
+    slice-aggregate-is-3
+    is-requires-3
+    returns-3
+    returns-4)

@@ -1,7 +1,7 @@
 -- `writer::check_body` meets its contract.
 -- Assumes nothing.
 use mathlib.Core.Path.{refl, sym, _∙_}
-use Rattle.format.specs.Ascii.{'H', 'I', 'J', 'K', 'L', 'N', 'P', 'Q', 'R', 'Y'}
+use Rattle.format.specs.Ascii.{'H', 'I', 'J', 'K', 'L', 'N', 'O', 'P', 'Q', 'R', 'Y', 'h'}
 use Rattle.pen.specs.Encode.{layout}
 use Rattle.writer.specs.Writing.{textsOf, intraday}
 use Rattle.writer.proofs.Says.{checked, one-text, two-texts, order-checked}
@@ -126,6 +126,18 @@ is-text4-requires-2 c κs = search needs
 both-requires-3 : tie.Need-both-requires-3
 both-requires-3 c κs = search needs
 
+enum-known-b-12 : tie.Need-enum-known-b-12
+enum-known-b-12 c = search needs
+
+is-text8-requires-12 : tie.Need-is-text8-requires-12
+is-text8-requires-12 c κs = search needs
+
+enum-known-b-13 : tie.Need-enum-known-b-13
+enum-known-b-13 c = search needs
+
+is-text8-requires-13 : tie.Need-is-text8-requires-13
+is-text8-requires-13 c κs = search needs
+
 returns : tie.Need-returns
 returns c =
     let b = c .before .before .before .before .before .b .given in
@@ -214,6 +226,14 @@ returns-20 c =
     let b = c .before .before .before .before .b11 .given in
     two-texts 'H' 8 (b .0 .0) 4 (b .0 .1 .1 .1 .0) (checked (b .1)) (c .before .before .is-text811 .ensures) (c .before .is-text42 .ensures) (c .both3 .ensures)
 
+returns-21 : tie.Need-returns-21
+unfolding textsOf intraday layout
+returns-21 c = one-text 'h' 8 (c .before .before .b12 .given .0 .0) (checked (c .before .before .b12 .given .1)) (c .is-text812 .ensures) refl
+
+returns-22 : tie.Need-returns-22
+unfolding textsOf intraday layout
+returns-22 c = one-text 'O' 8 (c .before .before .b13 .given .0 .0 .stock) (checked (c .before .before .b13 .given .1)) (c .is-text813 .ensures) refl
+
 pub check-body-spec : {M : Type 1} → statement M
 check-body-spec =
     tie.close
@@ -257,6 +277,10 @@ check-body-spec =
     is-text8-requires-11
     is-text4-requires-2
     both-requires-3
+    enum-known-b-12
+    is-text8-requires-12
+    enum-known-b-13
+    is-text8-requires-13
     returns
     returns-2
     returns-3
@@ -276,4 +300,6 @@ check-body-spec =
     returns-17
     returns-18
     returns-19
-    returns-20)
+    returns-20
+    returns-21
+    returns-22)
