@@ -141,7 +141,7 @@ pub fn call_at(list: &[u8], at: usize, a: &mut [u8], b: &mut [u8]) -> Asked
     }
 }
 
-// Which call the first number of a call says: those that are made by the later edition have 100 more.
+// Which call the first number of a call says: those that are made by the later edition have 100 more, and those by a strict reading 200 more.
 pub fn which(n: u64) -> u64
     ensures { λ r. ⌜ r ≡ n % 100 ⌝ }
 {
@@ -152,13 +152,16 @@ pub fn which(n: u64) -> u64
 pub fn reading(n: u64) -> Reading
     ensures { λ r. ⌜ r ≡ readingFor n ⌝ }
 {
-    if n < 100 {
+    let strict = n >= 200;
+    if n / 100 % 2 == 0 {
         return Reading {
             edition: Edition::Old,
+            strict,
         };
     }
     Reading {
         edition: Edition::Later,
+        strict,
     }
 }
 

@@ -8,7 +8,7 @@ use lib.Dec.{T, eqb, eqb→eq}
 use borrow.Author.Tests.{eqb-true}
 use Rattle.format.specs.Ascii.{'Y', 'P'}
 use Rattle.format.specs.Codes.{side, yesNo, tradingState, direction, imbalanceCross, qualifier, makerMode, participantState, interest, cross, category, status, class, authenticity, flag, tier, etpFlag, event, level, action, market, halt, subtypes}
-use Rattle.format.specs.Layout.{num, code, subtype, be, part, member, got, judge, field}
+use Rattle.format.specs.Layout.{num, code, subtype, be, part, member, got, field, judgeBy}
 use Rattle.codes.specs.Names.{eventByte, eventFrom, categoryByte, categoryFrom, statusByte, statusFrom, classByte, classFrom, tierByte, tierFrom, makerModeByte, makerModeFrom, participantStateByte, participantStateFrom, actionByte, actionFrom, tradingStateByte, tradingStateFrom, sideByte, sideFrom, directionByte, directionFrom, crossByte, crossFrom, qualifierByte, qualifierFrom, levelByte, levelFrom, marketByte, marketFrom, haltByte, haltFrom, interestByte, interestFrom, flagByte, flagFrom, etpFlagByte, etpFlagFrom, yesNoByte, authenticityByte, subtypeByte, subtypeFrom, subtypeOf}
 use Rattle.format.proofs.Fields.{field-judged, field-fine, code-fine}
 use Rattle.format.proofs.Tests.{both}
@@ -36,7 +36,7 @@ coded byte from set t = record { back = λ b. backed byte from set b t }
 -- a field that gave a byte of the set, whose name is r, gave the byte of r
 pub named : {A : Type 0} {byte : A → ℕ} {from : ℕ → A} {set : List ℕ} → Coded byte from set → (s : List ℕ) (at : ℕ) {b : ℕ} {r : A}
     → field (code set) s at ≡ got b → r ≡ from b → field (code set) s at ≡ got (byte r)
-unfolding judge
+unfolding judgeBy
 named {byte = byte} {set = set} c s at {b} e q =
     let h = code-fine set (be (part s at 1)) b (field-fine (code set) s at e .1) in
     e ∙ ap got (sym (ap byte q ∙ c .back b (rw (h .1) at (h .0))))
@@ -136,7 +136,7 @@ subtype-coded = coded subtypeByte subtypeFrom subtypes tt
 
 -- the subtype: a number of two bytes, judged
 pub subtype-got : (s : List ℕ) (at : ℕ) {v : ℕ} → field (num 2) s at ≡ got v → field subtype s at ≡ subtypeOf v at
-unfolding judge subtypeOf
+unfolding judgeBy subtypeOf
 subtype-got s at {v} e =
     let h = field-fine (num 2) s at e in
     let q : be (part s at 2) ≡ v = cc (h .1) in

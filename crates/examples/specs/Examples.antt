@@ -1,11 +1,12 @@
--- The scope's examples 1 to 11, its further runs and its page of five lines, and the two messages of the later edition by both: a table for each edition, of which
--- bytes, which answer is asked of them, and what it is. An accepted message stands whole.
+-- The scope's examples 1 to 11, its further runs and its page of five lines, the two messages of the later edition by both, and what a strict reading refuses: a
+-- table for each reading, of which bytes, which answer is asked of them, and what it is. An accepted message stands whole.
 -- Assumes nothing.
 use Prim.Native.Nat.{ℕ}
 use mathlib.Core.Path.{_≡_}
 use mathlib.Core.Bool.{true, false}
 use mathlib.Core.List.{List, [], _∷_, _++_}
 use mathlib.Core.Logic.{_⊎_}
+use lib.ListN.{take}
 use Rattle.format.specs.declared.Edition.the-variants.{Old, Later}
 use Rattle.format.specs.declared.Reading.{Reading}
 use Rattle.codes.specs.declared.trade.CrossType.the-variants.{Intraday}
@@ -22,7 +23,6 @@ use Rattle.codes.specs.declared.stock.LuldRefPriceTier.the-variants.{Tier1}
 use Rattle.codes.specs.declared.stock.MarketCategory.the-variants.{NasdaqGlobalMarket}
 use Rattle.codes.specs.declared.trade.Side.the-variants.{Buy}
 use Rattle.records.specs.declared.Mpid.the-variants as Mpid·
-use Rattle.records.specs.declared.AddOrder.{AddOrder}
 use Rattle.records.specs.declared.CrossTrade.{CrossTrade}
 use Rattle.records.specs.declared.StockDirectory.{StockDirectory}
 use Rattle.records.specs.declared.DirectListing.{DirectListing}
@@ -57,12 +57,18 @@ anew rd (window e s a) = window e s (windowOf rd s)
 anew rd (frame e s v) = frame e s (frameOf (windowOf rd) s)
 anew rd (walk e s w) = walk e s (walkOf (windowOf rd) s)
 
--- the readings of the two tables
+-- the readings of the tables
 abbrev pub old : Reading
-old = record { edition = Old }
+old = record { edition = Old; strict = false }
 
 abbrev pub later : Reading
-later = record { edition = Later }
+later = record { edition = Later; strict = false }
+
+abbrev pub strict : Reading
+strict = record { edition = Old; strict = true }
+
+abbrev pub strict-later : Reading
+strict-later = record { edition = Later; strict = true }
 
 -- r is one of the rows
 abbrev pub In : Row → List Row → Type 0
@@ -141,9 +147,50 @@ a-with-ff side = 0x00 ∷ 0x24 ∷ 0x41 ∷ head ++ n8 ++ (side ∷ []) ++ n4 ++
 abbrev a-with-stock : List ℕ → List ℕ
 a-with-stock t = 0x00 ∷ 0x24 ∷ 0x41 ∷ head ++ n8 ++ (0x42 ∷ []) ++ n4 ++ t ++ n4
 
--- one with é (c3 a9) in it
-abbrev accented : AddOrder
-accented = record { reference = 42; side = Buy; shares = 100; stock = 0x434146c3a9202020; price = 100; mpid = Mpid·.Absent }
+-- its first 33 bytes: the stock's eighth is not there
+abbrev a-short : List ℕ → List ℕ
+a-short t = take 33 (a-with-stock t)
+
+-- the message that one is whose stock is this number
+abbrev adds : ℕ → Message
+adds t = with-head 0x41 (Body·.AddOrder (record { reference = 42; side = Buy; shares = 100; stock = t; price = 100; mpid = Mpid·.Absent }))
+
+-- stocks: with é (c3 a9) in it, at place 29; with this byte, at place 28; with ff, at 28, behind 1f; with the two ends of what a strict reading allows
+abbrev accented : List ℕ
+accented = 0x43 ∷ 0x41 ∷ 0x46 ∷ 0xc3 ∷ 0xa9 ∷ 0x20 ∷ 0x20 ∷ 0x20 ∷ []
+
+abbrev odd : ℕ → List ℕ
+odd b = 0x43 ∷ 0x41 ∷ b ∷ 0x20 ∷ 0x20 ∷ 0x20 ∷ 0x20 ∷ 0x20 ∷ []
+
+abbrev broken : List ℕ
+broken = 0x43 ∷ 0x1f ∷ 0xff ∷ 0x20 ∷ 0x20 ∷ 0x20 ∷ 0x20 ∷ 0x20 ∷ []
+
+abbrev ends : List ℕ
+ends = 0x20 ∷ 0x7e ∷ 0x20 ∷ 0x20 ∷ 0x20 ∷ 0x20 ∷ 0x20 ∷ 0x7e ∷ []
+
+-- an F with 1f in its stock, at place 28, and ff as its mpid's first byte, at place 38
+abbrev f-with-both : List ℕ
+f-with-both = 0x00 ∷ 0x28 ∷ 0x46 ∷ head ++ n8 ++ (0x42 ∷ []) ++ n4 ++ odd 0x1f ++ n4 ++ (0xff ∷ 0x20 ∷ 0x20 ∷ 0x20 ∷ [])
+
+-- an A with 1f in its stock and a bad side, at place 21
+abbrev a-bad-side : List ℕ
+a-bad-side = 0x00 ∷ 0x24 ∷ 0x41 ∷ head ++ n8 ++ (0x58 ∷ []) ++ n4 ++ odd 0x1f ++ n4
+
+-- the time of a day, and the one before it; 13 bytes with the tag 5a and this time, of which the last is not there in the first 12; and a D with it
+abbrev day-over : List ℕ
+day-over = 0x4e ∷ 0x94 ∷ 0x91 ∷ 0x4f ∷ 0x00 ∷ 0x00 ∷ []
+
+abbrev day-last : List ℕ
+day-last = 0x4e ∷ 0x94 ∷ 0x91 ∷ 0x4e ∷ 0xff ∷ 0xff ∷ []
+
+abbrev z-at : List ℕ → List ℕ
+z-at time = 0x00 ∷ 0x0c ∷ 0x5a ∷ 0x00 ∷ 0x01 ∷ 0x00 ∷ 0x02 ∷ time
+
+abbrev d-at : List ℕ → List ℕ
+d-at time = 0x00 ∷ 0x13 ∷ 0x44 ∷ 0x00 ∷ 0x01 ∷ 0x00 ∷ 0x02 ∷ time ++ n8
+
+abbrev deletes-at : ℕ → Message
+deletes-at time = record { tag = 0x44; «stock_locate» = 1; «tracking_number» = 2; timestamp = time; body = Body·.DeleteOrder 42 }
 
 -- an H with this reserved byte, at place 22
 abbrev h-with : ℕ → List ℕ
@@ -238,7 +285,7 @@ rows =
     ∷ frame 11 (0x00 ∷ 0x0d ∷ line-one ++ (0x00 ∷ [])) (Bad 21 0)
     ∷ walk 11 (0x00 ∷ 0x0d ∷ line-one ++ (0x00 ∷ [])) (walked (refused 0 15 21 0 ∷ []) 15 0)
     -- Further runs: c3 a9 in a stock is legal, c3 as its eighth byte is 3, at 33: the stock's end cuts its sequence off.
-    ∷ window 0 (a-with-stock (0x43 ∷ 0x41 ∷ 0x46 ∷ 0xc3 ∷ 0xa9 ∷ 0x20 ∷ 0x20 ∷ 0x20 ∷ [])) (Accepted (with-head 0x41 (Body·.AddOrder accented)) 38)
+    ∷ window 0 (a-with-stock accented) (Accepted (adds 0x434146c3a9202020) 38)
     ∷ window 0 (a-with-stock (0x43 ∷ 0x41 ∷ 0x46 ∷ 0x20 ∷ 0x20 ∷ 0x20 ∷ 0x20 ∷ 0xc3 ∷ [])) (Refused 3 33)
     -- Any reserved byte of an H is kept.
     ∷ window 0 (h-with 0x58) (Accepted (with-head 0x48 (Body·.TradingAction 0x4141504c20202020 Halted 0x58 0x4c554450)) 27)
@@ -250,6 +297,13 @@ rows =
     ∷ window 0 (h-with-action 0x54) (Refused 1 2)
     ∷ window 0 o-whole (Refused 1 2)
     ∷ walk 0 (h-with-action 0x54 ++ o-whole ++ h-short) (walked (refused 0 23 1 2 ∷ refused 23 50 1 2 ∷ refused 73 4 20 0 ∷ []) 77 0)
+    -- What a strict reading refuses, by this one: any time and any UTF-8 are legal; ff behind 1f is 3; of two bad fields the first that is bad here.
+    ∷ window 0 (z-at day-over) (Refused 1 2)
+    ∷ window 0 (d-at day-over) (Accepted (deletes-at 86400000000000) 21)
+    ∷ window 0 (a-with-stock (odd 0x1f)) (Accepted (adds 0x43411f2020202020) 38)
+    ∷ window 0 (a-with-stock (odd 0x7f)) (Accepted (adds 0x43417f2020202020) 38)
+    ∷ window 0 (a-with-stock broken) (Refused 3 28)
+    ∷ window 0 f-with-both (Refused 3 38)
     ∷ []
 
 -- ---- the later edition's
@@ -266,4 +320,48 @@ later-rows =
     -- As by the old edition: 5a is no tag, line one is accepted.
     ∷ window 5 (0x00 ∷ 0x0c ∷ 0x5a ∷ 0x00 ∷ 0x00 ∷ 0x00 ∷ 0x00 ∷ 0x00 ∷ 0x00 ∷ 0x00 ∷ 0x00 ∷ 0x00 ∷ 0x01 ∷ []) (Refused 1 2)
     ∷ window 2 (0x00 ∷ 0x0c ∷ line-one) (Accepted opens 14)
+    ∷ []
+
+-- ---- the old edition's, read strictly
+
+abbrev pub strict-rows : List Row
+strict-rows =
+    -- 13 bytes with tag 5a and the time of a day: 4 at 7, before the tag; the time before it: 1 at 2; 12 of them: incomplete.
+    window 0 (z-at day-over) (Refused 4 7)
+    ∷ window 0 (take 12 (z-at day-over)) Incomplete
+    ∷ window 0 (z-at day-last) (Refused 1 2)
+    ∷ window 0 (take 12 (z-at day-last)) Incomplete
+    ∷ window 0 (d-at day-over) (Refused 4 7)
+    ∷ window 0 (d-at day-last) (Accepted (deletes-at 86399999999999) 21)
+    -- c3 a9 in a stock: 5 where c3 stands; 1f and 7f: 5; without the stock's eighth byte: incomplete; 20 and 7e: accepted.
+    ∷ window 0 (a-with-stock accented) (Refused 5 29)
+    ∷ window 0 (a-short accented) Incomplete
+    ∷ window 0 (a-with-stock (odd 0x1f)) (Refused 5 28)
+    ∷ window 0 (a-short (odd 0x1f)) Incomplete
+    ∷ window 0 (a-with-stock (odd 0x7f)) (Refused 5 28)
+    ∷ window 0 (a-short (odd 0x7f)) Incomplete
+    ∷ window 0 (a-with-stock ends) (Accepted (adds 0x207e20202020207e) 38)
+    -- ff behind 1f: 3 where ff stands, as in the ordinary reading.
+    ∷ window 0 (a-with-stock broken) (Refused 3 28)
+    ∷ window 0 (a-short broken) Incomplete
+    -- Of two bad fields the first: a bad side before a stock with 1f, 2 at 21; a stock with 1f before an mpid with ff, 5 at 28.
+    ∷ window 0 a-bad-side (Refused 2 21)
+    ∷ window 0 f-with-both (Refused 5 28)
+    -- The walk steps over each.
+    ∷ walk 0 (d-at day-over ++ a-with-stock accented ++ (0x00 ∷ 0x0c ∷ line-one) ++ z-at day-over)
+    (walked (refused 0 21 4 7 ∷ refused 21 38 5 29 ∷ accepted 59 14 opens ∷ []) 73 13)
+    -- Tags of the later edition: 1, unless 4 comes first.
+    ∷ window 0 h-thirteen (Refused 1 2)
+    ∷ []
+
+-- ---- the later edition's, read strictly
+
+abbrev pub strict-later-rows : List Row
+strict-later-rows =
+    -- Both messages, as in the ordinary reading; 7f as an h's stock's third byte: 5 at 15; an action that is no code, behind it: 5 all the same.
+    window 0 (h-with-action 0x54) (Accepted resumes 23)
+    ∷ window 0 o-whole (Accepted (with-head 0x4f (Body·.DirectListing listed)) 50)
+    ∷ window 0 h-thirteen Incomplete
+    ∷ window 0 (0x00 ∷ 0x15 ∷ 0x68 ∷ head ++ odd 0x7f ++ (0x42 ∷ 0x51 ∷ [])) (Refused 5 15)
+    ∷ window 0 (h-with-action 0x51) (Refused 2 22)
     ∷ []

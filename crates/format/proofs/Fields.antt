@@ -10,20 +10,35 @@ use lib.ListN.{length, getD}
 use lib.Seq.{drop-cons}
 use borrow.Author.Tests.{le-leb, lt-leb, leb-true}
 use Rattle.format.specs.Utf8.{wellFormed, firstBad}
-use Rattle.format.specs.Layout.{Kind, num, text, width, be, part, member, Verdict, fine, wrong, got, short, refused, judge, placed, field}
+use Rattle.format.specs.Layout.{Kind, num, text, width, be, part, member, Verdict, fine, wrong, got, short, refused, judge, judgeBy, placed, field, fieldBy}
 use Rattle.format.specs.Meaning.{faultM}
 use Rattle.format.specs.declared.Fault.{Fault}
 use Rattle.format.specs.declared.Fault.the-variants.{Short, Refused}
 use Rattle.format.proofs.Bytes.{be-one}
 
-pub field-short : (k : Kind) (s : List ℕ) (at : ℕ) → length s < at + width k → short ≡ field k s at
-unfolding field
-field-short k s at h = rw (lt-leb _ _ h)
+-- by either reading: a field that is not all there; one that is, which is the judgement of its bytes; a number
+pub short-by : (strict : Bool) (k : Kind) (s : List ℕ) (at : ℕ) → length s < at + width k → short ≡ fieldBy strict k s at
+unfolding fieldBy
+short-by strict k s at h = rw (lt-leb _ _ h)
 
--- a field whose bytes are all there is their judgement
+pub judged-by : (strict : Bool) (k : Kind) (s : List ℕ) (at : ℕ) → at + width k ≤ length s
+    → fieldBy strict k s at ≡ placed at (judgeBy strict k (part s at (width k)))
+unfolding fieldBy
+judged-by strict k s at h = rw (le-leb _ _ h)
+
+pub num-by : (strict : Bool) (w : ℕ) (s : List ℕ) (at : ℕ) {v : ℕ} → at + w ≤ length s → v ≡ be (part s at w) → got v ≡ fieldBy strict (num w) s at
+unfolding judgeBy
+num-by strict w s at h e = sym (judged-by strict (num w) s at h ∙ ap got (sym e))
+
+-- the same in the ordinary reading
+pub field-short : (k : Kind) (s : List ℕ) (at : ℕ) → length s < at + width k → short ≡ field k s at
+field-short = short-by false
+
 pub field-judged : (k : Kind) (s : List ℕ) (at : ℕ) → at + width k ≤ length s → field k s at ≡ placed at (judge k (part s at (width k)))
-unfolding field
-field-judged k s at h = rw (le-leb _ _ h)
+field-judged = judged-by false
+
+pub field-num : (w : ℕ) (s : List ℕ) (at : ℕ) {v : ℕ} → at + w ≤ length s → v ≡ be (part s at w) → got v ≡ field (num w) s at
+field-num = num-by false
 
 -- a field that gave a value: its bytes are all there, and are judged to be it
 placed-fine : (t : Bool) (at : ℕ) (x : Verdict) (v : ℕ) → cond t (placed at x) short ≡ got v → (t ≡ true) × (x ≡ fine v)
@@ -32,29 +47,25 @@ placed-fine true at (wrong n o) v e = let z : _≡_ {A = ℕ} 0 1 = cc in absurd
 placed-fine false at x v e = let z : _≡_ {A = ℕ} 0 1 = cc in absurd (omega arith)
 
 pub field-fine : (k : Kind) (s : List ℕ) (at : ℕ) {v : ℕ} → field k s at ≡ got v → (at + width k ≤ length s) × (judge k (part s at (width k)) ≡ fine v)
-unfolding field
+unfolding fieldBy
 field-fine k s at {v} e =
     let h = placed-fine (leb (at + width k) (length s)) at (judge k (part s at (width k))) v e in
     (leb-true (at + width k) (length s) (h .0), h .1)
 
-pub field-num : (w : ℕ) (s : List ℕ) (at : ℕ) {v : ℕ} → at + w ≤ length s → v ≡ be (part s at w) → got v ≡ field (num w) s at
-unfolding judge
-field-num w s at h e = sym (field-judged (num w) s at h ∙ ap got (sym e))
-
 pub field-text : (w : ℕ) (s : List ℕ) (at : ℕ) {v : ℕ} → at + w ≤ length s → v ≡ be (part s at w) → wellFormed (part s at w) ≡ true
     → got v ≡ field (text w) s at
-unfolding judge
+unfolding judgeBy
 field-text w s at h e t = sym (field-judged (text w) s at h ∙ rw t (ap got (sym e)))
 
 pub field-no-text : (w : ℕ) (s : List ℕ) (at : ℕ) {p : ℕ} → at + w ≤ length s → wellFormed (part s at w) ≡ false → p ≡ at + firstBad (part s at w)
     → refused 3 p ≡ field (text w) s at
-unfolding judge
+unfolding judgeBy
 field-no-text w s at h t e = sym (field-judged (text w) s at h ∙ rw t (ap (refused 3) (sym e)))
 
 -- a text's judgement, by cases; so one that has a value is well formed, and the value is its bytes
 pub text-cases : (P : Verdict → Type 0) (w : ℕ) (bs : List ℕ) → (wellFormed bs ≡ true → P (fine (be bs)))
     → (wellFormed bs ≡ false → P (wrong 3 (firstBad bs))) → P (judge (text w) bs)
-unfolding judge
+unfolding judgeBy
 text-cases P w bs f g = go (wellFormed bs) refl
   where
     go : (b : Bool) → wellFormed bs ≡ b → P (cond b (fine (be bs)) (wrong 3 (firstBad bs)))
@@ -84,7 +95,7 @@ code-fine set v w =
 
 -- a field of one byte whose byte is there is the judgement of that byte
 pub one-byte : (k : Kind) (s : List ℕ) (at : ℕ) {b : ℕ} → width k ≡ 1 → field (num 1) s at ≡ got b → field k s at ≡ placed at (judge k (b ∷ []))
-unfolding judge
+unfolding judgeBy
 one-byte k s at {b} w e =
     let h = field-fine (num 1) s at e in
     let l : at < length s = omega arith in
@@ -99,7 +110,7 @@ not-there true v (Refused n p) q = let z : _≡_ {A = ℕ} 0 1 = cc in absurd (o
 not-there false v e q = (refl, sym q)
 
 pub num-short : (k : Kind) (w : ℕ) (s : List ℕ) (at : ℕ) (e : Fault) → width k ≡ w → field (num w) s at ≡ faultM e → field k s at ≡ faultM e
-unfolding field judge
+unfolding fieldBy judgeBy
 num-short k w s at e l q =
     let h = not-there (leb (at + w) (length s)) (be (part s at w)) e q in
     rw l (rw (h .0, h .1))

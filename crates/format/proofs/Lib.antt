@@ -1,8 +1,11 @@
 pub mod Tests
+pub mod Arms
 pub mod Bytes
 pub mod Text
 pub mod Fields
+pub mod Texts
 pub mod Runs
 pub mod Heads
-pub mod Windows
 pub mod Editions
+pub mod Strict
+pub mod Windows

@@ -113,7 +113,7 @@ abbrev pub highs : ℕ → ℕ
 highs zero = 0
 highs (suc w) = highs w * 256 + 128
 
-no-high : (b : ℕ) → b < 256 → bitAnd b 128 ≡ 0 → b < 128
+pub no-high : (b : ℕ) → b < 256 → bitAnd b 128 ≡ 0 → b < 128
 no-high b h e = go (leb 128 b) refl
   where
     go : (t : Bool) → leb 128 b ≡ t → b < 128

@@ -1,9 +1,9 @@
--- What reading a row of fields answers. A row is a list of field kinds, and one interpreter, `read`, takes its fields in order.
+-- What reading a row of fields answers. A row is a list of field kinds, and one interpreter, `readBy`, takes its fields in order, strictly or not.
 -- Assumes nothing.
-use Prim.Native.Nat.{ℕ, _+_, _*_}
+use Prim.Native.Nat.{ℕ, suc, _+_, _*_}
 use mathlib.Core.List.{List, [], _∷_, _++_}
-use mathlib.Core.Bool.{Bool, false, cond, _||_}
-use lib.Dec.{leb, eqb}
+use mathlib.Core.Bool.{Bool, false, cond, _||_, _&&_}
+use lib.Dec.{leb, ltb, eqb}
 use lib.ListN.{length, take, drop}
 use Rattle.format.specs.Codes.{subtypes}
 use Rattle.format.specs.Utf8.{wellFormed, firstBad}
@@ -45,13 +45,31 @@ pub data Verdict : Type 0 where
   fine : ℕ → Verdict
   wrong : ℕ → ℕ → Verdict
 
--- the judgement of each kind of field: an illegal code is 2, at the field's first byte; a text that is not UTF-8 is 3, where its first bad sequence begins
-unfoldable pub judge : Kind → List ℕ → Verdict
-judge (num w) bs = fine (be bs)
-judge time bs = fine (be bs)
-judge (text w) bs = cond (wellFormed bs) (fine (be bs)) (wrong 3 (firstBad bs))
-judge (code set) bs = cond (member (be bs) set) (fine (be bs)) (wrong 2 0)
-judge subtype bs = cond (member (be bs) subtypes) (fine (be bs)) (wrong 2 0)
+-- a day, in nanoseconds
+abbrev pub day : ℕ
+day = 86400000000000
+
+-- a text with a byte outside 20 to 7e, and how many bytes stand before the first such one
+abbrev pub outside : ℕ → Bool
+outside b = ltb b 0x20 || ltb 0x7e b
+
+unfoldable pub strays : List ℕ → Bool
+strays [] = false
+strays (b ∷ bs) = outside b || strays bs
+
+unfoldable pub firstStray : List ℕ → ℕ
+firstStray [] = 0
+firstStray (b ∷ bs) = cond (outside b) 0 (suc (firstStray bs))
+
+-- the judgement of each kind of field: an illegal code is 2, at the field's first byte; a text that is not UTF-8 is 3, where its first bad sequence begins.
+-- Strictly, a time of a day or more is 4, at its first byte, and a text with a byte outside 20 to 7e is, right after 3, 5 at the first such byte
+unfoldable pub judgeBy : Bool → Kind → List ℕ → Verdict
+judgeBy strict (num w) bs = fine (be bs)
+judgeBy strict time bs = cond (strict && leb day (be bs)) (wrong 4 0) (fine (be bs))
+judgeBy strict (text w) bs =
+    cond (wellFormed bs) (cond (strict && strays bs) (wrong 5 (firstStray bs)) (fine (be bs))) (wrong 3 (firstBad bs))
+judgeBy strict (code set) bs = cond (member (be bs) set) (fine (be bs)) (wrong 2 0)
+judgeBy strict subtype bs = cond (member (be bs) subtypes) (fine (be bs)) (wrong 2 0)
 
 -- what a field answers: its value; not all of its bytes are there; refused, with number and place
 pub data Got : Type 0 where
@@ -68,8 +86,8 @@ abbrev pub part : List ℕ → ℕ → ℕ → List ℕ
 part s at w = take w (drop at s)
 
 -- a field at a place of a window: judged as soon as its last byte is there
-unfoldable pub field : Kind → List ℕ → ℕ → Got
-field k s at = cond (leb (at + width k) (length s)) (placed at (judge k (part s at (width k)))) short
+unfoldable pub fieldBy : Bool → Kind → List ℕ → ℕ → Got
+fieldBy strict k s at = cond (leb (at + width k) (length s)) (placed at (judgeBy strict k (part s at (width k)))) short
 
 -- what reading a window answers: accepted, with all values and the bytes consumed; incomplete; refused, with number and place
 pub data Answer : Type 0 where
@@ -84,6 +102,16 @@ step short go = incomplete
 step (refused n p) go = refuses n p
 
 -- the fields in order, from a place on, after the values vs; then `go` has all the values and the place behind the last field
+abbrev pub readBy : Bool → List Kind → List ℕ → ℕ → List ℕ → (List ℕ → ℕ → Answer) → Answer
+readBy strict [] s at vs go = go vs at
+readBy strict (k ∷ ks) s at vs go = step (fieldBy strict k s at) (λ v. readBy strict ks s (at + width k) (vs ++ (v ∷ [])) go)
+
+-- the same in the ordinary reading: what the leaves and the bodies answer
+abbrev pub judge : Kind → List ℕ → Verdict
+judge = judgeBy false
+
+abbrev pub field : Kind → List ℕ → ℕ → Got
+field = fieldBy false
+
 abbrev pub read : List Kind → List ℕ → ℕ → List ℕ → (List ℕ → ℕ → Answer) → Answer
-read [] s at vs go = go vs at
-read (k ∷ ks) s at vs go = step (field k s at) (λ v. read ks s (at + width k) (vs ++ (v ∷ [])) go)
+read = readBy false

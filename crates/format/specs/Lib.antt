@@ -3,4 +3,5 @@ pub mod Codes
 pub mod Utf8
 pub mod Layout
 pub mod Rows
+pub mod Strict
 pub mod Meaning

@@ -2,7 +2,7 @@
 -- Assumes nothing.
 use Prim.Native.Nat.{ℕ}
 use mathlib.Core.List.{List, [], _∷_, _++_}
-use mathlib.Core.Bool.{cond}
+use mathlib.Core.Bool.{Bool, false, cond}
 use lib.Dec.{eqb}
 use lib.ListN.{getD, drop}
 use Rattle.format.specs.Ascii.{'A', 'B', 'C', 'D', 'E', 'F', 'H', 'I', 'J', 'K', 'L', 'N', 'O', 'P', 'Q', 'R', 'S', 'U', 'V', 'W', 'X', 'Y', 'h'}
@@ -10,7 +10,7 @@ use Rattle.format.specs.Codes.{side, yesNo, tradingState, direction, imb
 use Rattle.format.specs.declared.Edition.{Edition}
 use Rattle.format.specs.declared.Edition.the-variants.{Old, Later}
 use Rattle.format.specs.declared.Reading.{Reading}
-use Rattle.format.specs.Layout.{Kind, num, time, text, code, subtype, Answer, accepted, refuses, read}
+use Rattle.format.specs.Layout.{Kind, num, time, text, code, subtype, Answer, accepted, refuses, read, readBy}
 
 -- a tag, its size from the tag on, and the fields of its body
 pub record Row : Type 0 where
@@ -126,25 +126,29 @@ unfoldable pub sizeBy : Reading → ℕ → ℕ
 sizeBy rd t = sizeIn (find (rowsIn rd) t)
 
 -- a body under its tag's row, after the values vs: an unknown tag is refusal 1 at place 2
+abbrev pub underBy : Bool → Found → List ℕ → ℕ → List ℕ → Answer
+underBy strict (found r) s at vs = readBy strict (r .body) s at vs accepted
+underBy strict none s at vs = refuses 1 2
+
+-- the same in the ordinary reading
 abbrev pub under : Found → List ℕ → ℕ → List ℕ → Answer
-under (found r) s at vs = read (r .body) s at vs accepted
-under none s at vs = refuses 1 2
+under = underBy false
 
 -- the 13 bytes before a body: length, tag, locate, tracking number, timestamp
 abbrev pub header : List Kind
 header = num 2 ∷ num 1 ∷ num 2 ∷ num 2 ∷ time ∷ []
 
--- what follows the header's values h: the tag is judged, then the body's fields. The length is ignored. The values are tag, locate, tracking
--- number and timestamp, then the tag once more, which tells apart the bodies of like fields (D and B), then the body's
+-- what follows the header's values h: the tag is judged, after the time, then the body's fields. The length is ignored. The values are tag, locate,
+-- tracking number and timestamp, then the tag once more, which tells apart the bodies of like fields (D and B), then the body's
 abbrev pub message : Reading → List ℕ → List ℕ → ℕ → Answer
-message rd s h at = under (find (rowsIn rd) (getD h 1 0)) s at (drop 1 h ++ (getD h 1 0 ∷ []))
+message rd s h at = underBy (rd .strict) (find (rowsIn rd) (getD h 1 0)) s at (drop 1 h ++ (getD h 1 0 ∷ []))
 
 -- what reading a window answers
 unfoldable pub window : Reading → List ℕ → Answer
-window rd s = read header s 0 [] (message rd s)
+window rd s = readBy (rd .strict) header s 0 [] (message rd s)
 
--- the parts of that answer which the code reads by functions of their own: the header without its length; the body of a tag, in any edition and
--- by a reading; and the body of a tag that an edition adds
+-- the parts of the ordinary answer which the code reads by functions of their own: the header without its length; the body of a tag, in any edition
+-- and in that of a reading; and the body of a tag that an edition adds
 unfoldable pub headerOf : List ℕ → Answer
 headerOf s = read header s 0 [] (λ h. accepted (drop 1 h))
 

@@ -18,9 +18,11 @@ pub enum Edition {
     Later,
 }
 
-// How a message is to be read or written. Who reads or writes takes it by value, last.
+// How a message is to be read or written. Who reads or writes takes it by value, last. A strict reading also refuses times of a day or more, and text with
+// a byte outside 20 to 7e; who writes does not look at that.
 pub struct Reading {
     pub edition: Edition,
+    pub strict: bool,
 }
 
 // Why a field has no value: not all of its bytes are there, or it is refused, with the number and the place.

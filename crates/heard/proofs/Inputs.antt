@@ -6,7 +6,7 @@ use mathlib.Core.List.{List, [], _∷_}
 use native.Mathlib.Omega.{arith}
 use lib.ListN.{length, drop, length-drop}
 use Rattle.format.specs.declared.Reading.{Reading}
-use Rattle.format.specs.Layout.{field}
+use Rattle.format.specs.Layout.{fieldBy}
 use Rattle.format.specs.Rows.{window}
 use Rattle.records.specs.declared.Message.{Message as Record}
 use Rattle.reader.specs.Window.{windowOf}
@@ -23,7 +23,7 @@ some rd s m n e = let c = covers rd s m n e in (omega (arith, c .0), c .1)
 
 -- no byte, no message
 empty : (rd : Reading) → windowOf rd [] ≡ Incomplete
-unfolding windowOf window field
+unfolding windowOf window fieldBy
 empty rd = refl
 
 -- two ways on that agree where they are asked

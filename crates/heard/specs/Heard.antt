@@ -43,8 +43,8 @@ heardAt rd (suc k) s = heardBy s (windowOf rd s) (λ n. heardAt rd k (drop n s))
 abbrev pub heardOf : Reading → List ℕ → Heard
 heardOf rd s = heardAt rd (length s) s
 
--- the answers that can be the stop: nothing more; 1, 2 or 3 at a place; 10
+-- the answers that can be the stop: nothing more; 1 to 5 at a place; 10
 pub data Stop : Answer → Type 0 where
   nothing : Stop Nothing
-  bad : {n p : ℕ} → 1 ≤ n → n ≤ 3 → Stop (Refused n p)
+  bad : {n p : ℕ} → 1 ≤ n → n ≤ 5 → Stop (Refused n p)
   inside : Stop (Refused 10 0)

@@ -1,17 +1,20 @@
 -- The same laws of the reader's answer itself, `windowOf`: what the layers above cite.
 -- Assumes nothing.
-use mathlib.Core.Path.{_≡_, refl, sym, ap, _∙_}
+use mathlib.Core.Path.{_≡_, refl, sym, ap, subst, _∙_}
+use mathlib.Core.Bool.{Bool, true, false, cond}
 use mathlib.Core.List.{List, _++_}
 use Prim.Native.Nat.{ℕ, _+_, _≤_, _<_}
 use native.Mathlib.Omega.{arith}
 use lib.ListN.{length, take, getD}
 use Rattle.format.specs.Layout.{Answer, accepted, incomplete, refuses}
 use Rattle.format.specs.Rows.{sizeOf, window}
+use Rattle.format.specs.Strict.{ordinary, stricter as made}
 use Rattle.format.specs.declared.Reading.{Reading}
+use Rattle.format.proofs.Strict.{window-strictly, by-reading}
 use Rattle.records.specs.declared.Message.{Message}
 use Rattle.reader.specs.declared.Window.{Window}
 use Rattle.reader.specs.declared.Window.the-variants.{Message as Accepted, Incomplete, Refused}
-use Rattle.reader.specs.Window.{windowFrom, windowOf}
+use Rattle.reader.specs.Window.{windowFrom, windowOf, Stricter, same, four, five}
 use Rattle.laws.proofs.Rows.{Firm}
 use Rattle.laws.proofs.Window.{window-keeps, window-enough, window-covers, window-first, window-prefix}
 
@@ -67,3 +70,22 @@ unfolding windowOf
 prefix rd s t m n e l =
     let a = accepted-from (window rd (s ++ t)) m n e in
     ap windowFrom (window-prefix rd s t (a .0) n (a .1) l)
+
+-- an answer by any reading is the ordinary one, or, where the reading is strict, 4 or 5; so an acceptance is an ordinary one, of the same record and bytes
+pub stricter : (rd : Reading) (s : List ℕ) → Stricter rd (windowOf (ordinary rd) s) (windowOf rd s)
+unfolding windowOf
+stricter rd s = go (rd .strict) refl
+  where
+    go : (b : Bool) → rd .strict ≡ b → Stricter rd (windowFrom (window (ordinary rd) s)) (windowFrom (window rd s))
+    go true e = by-reading (λ a. Stricter rd (windowFrom (window (ordinary rd) s)) (windowFrom a)) rd s same (four e) (λ p. five e)
+    go false e =
+        let q : window rd s ≡ window (ordinary rd) s = window-strictly rd s ∙ ap (λ b. cond b (made s (window (ordinary rd) s)) (window (ordinary rd) s)) e in
+        subst (λ a. Stricter rd (windowFrom (window (ordinary rd) s)) (windowFrom a)) (sym q) same
+
+pub ordinarily : (rd : Reading) (s : List ℕ) (m : Message) (n : ℕ) → windowOf rd s ≡ Accepted m n → windowOf (ordinary rd) s ≡ Accepted m n
+ordinarily rd s m n e = go (windowOf rd s) (stricter rd s) e
+  where
+    go : (w : Window) → Stricter rd (windowOf (ordinary rd) s) w → w ≡ Accepted m n → windowOf (ordinary rd) s ≡ Accepted m n
+    go _ same e = e
+    go _ (four h) e = let z : _≡_ {A = ℕ} 0 1 = cc in absurd (omega arith)
+    go _ (five h) e = let z : _≡_ {A = ℕ} 0 1 = cc in absurd (omega arith)

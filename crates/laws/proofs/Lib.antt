@@ -2,5 +2,4 @@ pub mod Rows
 pub mod Window
 pub mod Answers
 pub mod Numbers
-pub mod Texts
 pub mod Unique

@@ -1,7 +1,9 @@
 -- The laws of reading a row of fields, by induction on the row, with what follows the row as a parameter, so that header and body are one law:
--- appended bytes change no answer but `incomplete`; with enough bytes it is not `incomplete`; an accepted row had all of its bytes.
+-- appended bytes change no answer but `incomplete`, be the reading strict or not; and in the ordinary one, with enough bytes it is not `incomplete`, and an
+-- accepted row had all of its bytes.
 -- Assumes nothing.
 use mathlib.Core.Path.{_≡_, refl, sym, ap, _∙_}
+use mathlib.Core.Bool.{Bool}
 use mathlib.Core.List.{List, [], _∷_, _++_, append-nil, append-assoc}
 use mathlib.Core.Logic.{⊎-elim}
 use Prim.Native.Nat.{ℕ, _+_, _≤_}
@@ -9,8 +11,8 @@ use native.Mathlib.Nat.{add-zero, add-assoc}
 use native.Mathlib.Omega.{arith}
 use lib.ListN.{length, drop, length-append, length-drop}
 use lib.Seq.{take-append-le, drop-append-le}
-use Rattle.format.specs.Layout.{Kind, width, widths, part, Verdict, fine, wrong, placed, Got, got, short, refused, judge, field, Answer, accepted, incomplete, step, read}
-use Rattle.format.proofs.Fields.{field-short, field-judged, field-fine}
+use Rattle.format.specs.Layout.{Kind, width, widths, part, Verdict, fine, wrong, placed, Got, got, short, refused, judge, judgeBy, field, fieldBy, Answer, accepted, incomplete, step, read, readBy}
+use Rattle.format.proofs.Fields.{short-by, judged-by, field-judged, field-fine}
 use Rattle.format.proofs.Tests.{le-or-lt}
 use Rattle.format.proofs.Runs.{Reads, end, _⨾_}
 
@@ -24,10 +26,10 @@ part-append s t at w h =
     let b : w ≤ length (drop at s) = simp length-drop (omega arith) in
     rw (drop-append-le at s t a, take-append-le w (drop at s) t b)
 
-field-append : (k : Kind) (s t : List ℕ) (at : ℕ) → at + width k ≤ length s → field k (s ++ t) at ≡ field k s at
-field-append k s t at h =
+field-append : (strict : Bool) (k : Kind) (s t : List ℕ) (at : ℕ) → at + width k ≤ length s → fieldBy strict k (s ++ t) at ≡ fieldBy strict k s at
+field-append strict k s t at h =
     let l : at + width k ≤ length (s ++ t) = rw length-append (omega arith) in
-    field-judged k (s ++ t) at l ∙ ap (λ bs. placed at (judge k bs)) (part-append s t at (width k) h) ∙ sym (field-judged k s at h)
+    judged-by strict k (s ++ t) at l ∙ ap (λ bs. placed at (judgeBy strict k bs)) (part-append s t at (width k) h) ∙ sym (judged-by strict k s at h)
 
 placed-there : (at : ℕ) (v : Verdict) → placed at v ≡ short → ⊥
 placed-there at (fine v) e = let z : _≡_ {A = ℕ} 0 1 = cc in omega arith
@@ -41,14 +43,14 @@ step-keeps (got v) R R′ f h = h v f
 step-keeps short R R′ f h = refl
 step-keeps (refused n p) R R′ f h = refl
 
-pub keeps : (ks : List Kind) (s t : List ℕ) (at : ℕ) (acc : List ℕ) (go go′ : List ℕ → ℕ → Answer)
+pub keeps : (strict : Bool) (ks : List Kind) (s t : List ℕ) (at : ℕ) (acc : List ℕ) (go go′ : List ℕ → ℕ → Answer)
     → ((vs : List ℕ) (n : ℕ) → Firm (go vs n) → go′ vs n ≡ go vs n)
-    → Firm (read ks s at acc go) → read ks (s ++ t) at acc go′ ≡ read ks s at acc go
-keeps [] s t at acc go go′ h f = h acc at f
-keeps (k ∷ ks) s t at acc go go′ h f =
+    → Firm (readBy strict ks s at acc go) → readBy strict ks (s ++ t) at acc go′ ≡ readBy strict ks s at acc go
+keeps strict [] s t at acc go go′ h f = h acc at f
+keeps strict (k ∷ ks) s t at acc go go′ h f =
     ⊎-elim
-    (λ l. rw (field-append k s t at l) (step-keeps (field k s at) _ _ f (λ v. keeps ks s t (at + width k) (acc ++ (v ∷ [])) go go′ h)))
-    (λ l. absurd (f (rw (← field-short k s at l))))
+    (λ l. rw (field-append strict k s t at l) (step-keeps (fieldBy strict k s at) _ _ f (λ v. keeps strict ks s t (at + width k) (acc ++ (v ∷ [])) go go′ h)))
+    (λ l. absurd (f (rw (← short-by strict k s at l))))
     (le-or-lt (at + width k) (length s))
 
 step-firm : (g : Got) (R : ℕ → Answer) → (g ≡ short → ⊥) → ((v : ℕ) → Firm (R v)) → Firm (step g R)

@@ -12,23 +12,25 @@ use lib.Dec.{T, eqb, leb, leb→le, eqb→eq}
 use lib.ListN.{length, take, drop, getD, take-append-drop}
 use lib.Seq.{length-take-le, getD-take}
 use Rattle.format.specs.Layout.{widths, Answer, accepted, incomplete, refuses}
-use Rattle.format.specs.Rows.{Row, rows, rowsIn, Found, found, none, find, sizeIn, sizeOf, under, header, message, bodyIn, window}
+use Rattle.format.specs.Rows.{Row, rows, rowsIn, Found, found, none, find, sizeIn, sizeOf, under, underBy, header, message, bodyIn, window}
 use Rattle.format.specs.declared.Reading.{Reading}
 use Rattle.format.proofs.Tests.{both, le-or-lt}
 use Rattle.format.proofs.Windows.{pre, window-there, window-cut}
 use Rattle.format.proofs.Editions.{row-in}
+use Rattle.format.proofs.Strict.{by-reading, ordinarily}
 use Rattle.laws.proofs.Rows.{Firm, keeps, enough, all-read, covers}
 
 -- appended bytes
-under-keeps : (f : Found) (s t : List ℕ) (at : ℕ) (vs : List ℕ) → Firm (under f s at vs) → under f (s ++ t) at vs ≡ under f s at vs
-under-keeps (found r) s t at vs h = keeps (r .body) s t at vs accepted accepted (λ ws n g. refl) h
-under-keeps none s t at vs h = refl
+under-keeps : (strict : Bool) (f : Found) (s t : List ℕ) (at : ℕ) (vs : List ℕ) → Firm (underBy strict f s at vs)
+    → underBy strict f (s ++ t) at vs ≡ underBy strict f s at vs
+under-keeps strict (found r) s t at vs h = keeps strict (r .body) s t at vs accepted accepted (λ ws n g. refl) h
+under-keeps strict none s t at vs h = refl
 
 pub window-keeps : (rd : Reading) (s t : List ℕ) → Firm (window rd s) → window rd (s ++ t) ≡ window rd s
 unfolding window
 window-keeps rd s t h =
-    keeps header s t 0 [] (message rd s) (message rd (s ++ t))
-    (λ vs n f. under-keeps (find (rowsIn rd) (getD vs 1 0)) s t n (drop 1 vs ++ (getD vs 1 0 ∷ [])) f)
+    keeps (rd .strict) header s t 0 [] (message rd s) (message rd (s ++ t))
+    (λ vs n f. under-keeps (rd .strict) (find (rowsIn rd) (getD vs 1 0)) s t n (drop 1 vs ++ (getD vs 1 0 ∷ [])) f)
     h
 
 -- every row's size is that of its fields, counted from the tag on, and none is above 50: one test over the rows
@@ -79,10 +81,13 @@ under-whole none s vs z l = λ e. let y : _≡_ {A = ℕ} 0 1 = cc in omega arit
 
 pub window-whole : (rd : Reading) (s : List ℕ) → 13 ≤ length s → 2 + sizeOf (getD s 2 0) ≤ length s → Firm (window rd s)
 unfolding bodyIn
-window-whole rd s h l e =
+window-whole rd s h l =
     let t : ℕ = getD s 2 0 in
     let z = rows-sized-in rd t in
-    firm-pre _ (bodyIn rd t s) (under-whole (find (rowsIn rd) t) s (t ∷ []) (z .0) (omega (arith, z .1))) (sym (window-there rd s h) ∙ e)
+    by-reading Firm rd s
+    (λ e. firm-pre _ (bodyIn rd t s) (under-whole (find (rowsIn rd) t) s (t ∷ []) (z .0) (omega (arith, z .1))) (sym (window-there rd s h) ∙ e))
+    (λ e. let y : _≡_ {A = ℕ} 0 1 = cc in omega arith)
+    (λ p e. let y : _≡_ {A = ℕ} 0 1 = cc in omega arith)
 
 -- 52 bytes
 size-50 : (f : Found) → Sized f → sizeIn f ≤ 50
@@ -120,7 +125,7 @@ window-covers rd s vs n e =
     ⊎-elim
     (λ l.
     let t : ℕ = getD s 2 0 in
-    let a = pre-accepted _ (bodyIn rd t s) vs n (sym (window-there rd s l) ∙ e) in
+    let a = pre-accepted _ (bodyIn rd t s) vs n (sym (window-there rd s l) ∙ ordinarily rd s vs n e) in
     let q : t ≡ getD vs 0 0 = ap (λ ws. getD ws 0 0) (a .2) in
     rw q at (in-covers (find (rowsIn rd) t) (find rows t) s (t ∷ []) (a .0) n (row-in rd t) (rows-sized t) l (a .1)))
     (λ l. let z : _≡_ {A = ℕ} 0 1 = cc (window-cut rd s l) in absurd (omega arith))
@@ -128,7 +133,7 @@ window-covers rd s vs n e =
 
 -- these bytes are accepted by themselves
 window-tag : (rd : Reading) (s vs : List ℕ) (n : ℕ) → 13 ≤ length s → window rd s ≡ accepted vs n → getD s 2 0 ≡ getD vs 0 0
-window-tag rd s vs n l e = ap (λ ws. getD ws 0 0) (pre-accepted _ (bodyIn rd (getD s 2 0) s) vs n (sym (window-there rd s l) ∙ e) .2)
+window-tag rd s vs n l e = ap (λ ws. getD ws 0 0) (pre-accepted _ (bodyIn rd (getD s 2 0) s) vs n (sym (window-there rd s l) ∙ ordinarily rd s vs n e) .2)
 
 pub window-first : (rd : Reading) (s vs : List ℕ) (n : ℕ) → window rd s ≡ accepted vs n → window rd (take n s) ≡ accepted vs n
 window-first rd s vs n e =

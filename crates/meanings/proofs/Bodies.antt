@@ -10,7 +10,7 @@ use borrow.Author.Tests.{eqb-true}
 use lib.Dec.{eqb}
 use Rattle.format.specs.Ascii.{'A', 'B', 'C', 'D', 'E', 'F', 'H', 'I', 'J', 'K', 'L', 'N', 'O', 'P', 'Q', 'R', 'S', 'U', 'V', 'W', 'X', 'Y', 'h'}
 use Rattle.format.specs.Codes.{subtypes}
-use Rattle.format.specs.Layout.{Kind, num, time, text, code, subtype, width, be, part, member, fine, judge, accepted}
+use Rattle.format.specs.Layout.{Kind, num, time, text, code, subtype, width, be, part, member, fine, judge, accepted, judgeBy}
 use Rattle.format.specs.Rows.{Row, rows, rowsIn, Found, found, none, find, fieldsIn, under, bodyIn}
 use Rattle.format.specs.declared.Reading.{Reading}
 use Rattle.format.proofs.Fields.{field-fine, code-fine}
@@ -36,7 +36,7 @@ data Row-gives : List Kind → List ℕ → Type 0 where
 infixr 30 _&_
 -- bytes that are judged to be a value
 gives : (k : Kind) (bs : List ℕ) (v : ℕ) → judge k bs ≡ fine v → Gives k v
-unfolding judge
+unfolding judgeBy
 gives (num w) bs v e = a-number
 gives time bs v e = a-time
 gives (text w) bs v e = a-text

@@ -13,6 +13,7 @@ use Rattle.format.specs.Layout.{be, part, Answer, accepted, incomplete, refuses
 use Rattle.format.specs.Rows.{bodyIn, window}
 use Rattle.format.specs.declared.Reading.{Reading}
 use Rattle.format.proofs.Tests.{le-or-lt}
+use Rattle.format.proofs.Strict.{ordinarily}
 use Rattle.format.proofs.Windows.{window-there, window-cut}
 use Rattle.laws.proofs.Window.{pre-accepted}
 use Rattle.records.specs.Values.{values, bodyFrom}
@@ -36,7 +37,7 @@ values-again rd s vs n e =
     (λ l.
     let t : ℕ = getD s 2 0 in
     let h : List ℕ = t ∷ be (part s 3 2) ∷ be (part s 5 2) ∷ be (part s 7 6) ∷ [] in
-    let p = pre-accepted h (bodyIn rd t s) vs n (sym (window-there rd s l) ∙ e) in
+    let p = pre-accepted h (bodyIn rd t s) vs n (sym (window-there rd s l) ∙ ordinarily rd s vs n e) in
     let b : values (bodyFrom (p .0)) ≡ p .0 = body-again rd t s (p .0) n (p .1) in
     subst (λ (v : List ℕ). messageValues (messageFrom v) ≡ v) (p .2) (ap (λ (ws : List ℕ). h ++ ws) b))
     (λ l. let z : _≡_ {A = ℕ} 0 1 = cc (window-cut rd s l) in absurd (omega arith))

@@ -1,6 +1,9 @@
--- What a window's answer means; and the answer that a meaning has, so that the layers above can say which answer the reader gives to which bytes.
+-- What a window's answer means; and the answer that a meaning has, so that the layers above can say which answer the reader gives to which bytes. And what a
+-- strict reading makes of an answer.
 -- Assumes nothing.
 use Prim.Native.Nat.{ℕ}
+use mathlib.Core.Path.{_≡_}
+use mathlib.Core.Bool.{true}
 use mathlib.Core.List.{List, _∷_}
 use lib.ListN.{getD, drop}
 use Rattle.format.specs.Layout.{Answer, accepted, incomplete, refuses}
@@ -37,3 +40,9 @@ windowFrom (refuses n p) = Refused n p
 -- the reader's answer to a window of bytes, by a reading
 unfoldable pub windowOf : Reading → List ℕ → Window
 windowOf rd s = windowFrom (window rd s)
+
+-- an answer by a reading, beside the ordinary one w: the same; or, where the reading is strict, 4 at place 7, or 5
+pub data Stricter (rd : Reading) (w : Window) : Window → Type 0 where
+  same : Stricter rd w w
+  four : rd .strict ≡ true → Stricter rd w (Refused 4 7)
+  five : {p : ℕ} → rd .strict ≡ true → Stricter rd w (Refused 5 p)

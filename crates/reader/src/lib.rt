@@ -1,7 +1,10 @@
-// parse_message: the one judgement of a message. The header first, then the body that the tag names.
+// parse_message: the one judgement of a message. The header first, then the body that the tag names; a strict reading then asks whether a text strays that
+// stands before anything refused.
 ghost use mathlib.Core.Path.{_≡_};
-ghost use mathlib.Core.Bool.{cond};
+ghost use mathlib.Core.Bool.{cond, _&&_};
+ghost use lib.Dec.{leb};
 ghost use Rattle.format.specs.Ascii.{'O', 'h'};
+ghost use Rattle.format.specs.Layout.{day};
 ghost use Rattle.format.specs.Rows.{bodyOf, bodyIn, bodyLater, window};
 ghost use Rattle.records.specs.Values.{bodyM};
 ghost use Rattle.reader.specs.Window.{windowM};
@@ -74,6 +77,19 @@ fn parse_body(s: &[u8], tag: u8, reading: Reading) -> BodyRead
     }
 }
 
+// A day, in nanoseconds.
+const DAY: u64 = 86400000000000;
+
+// Whether a time is refused: in a strict reading, from a day on.
+fn late(strict: bool, timestamp: u64) -> bool
+    ensures { λ r. ⌜ r ≡ (strict && leb day timestamp) ⌝ }
+{
+    if strict {
+        return timestamp >= DAY;
+    }
+    false
+}
+
 // Reads one window by a reading: its message and the bytes consumed, incomplete, or the first bad field's number and place.
 pub fn parse_message(s: &[u8], reading: Reading) -> Window
     ensures { λ r. ⌜ windowM r ≡ window reading (now (s .entry)) ⌝ }
@@ -83,21 +99,49 @@ pub fn parse_message(s: &[u8], reading: Reading) -> Window
         return Window::Incomplete;
     };
     let tag = header.tag;
+    let strict = reading.strict;
+    if late(strict, header.timestamp) {
+        return Window::Refused(4, 7);
+    }
     let b = parse_body(s, tag, reading);
     match b {
-        BodyRead::Got(body, consumed) => Window::Message(
-            Message {
-                tag,
-                stock_locate: header.stock_locate,
-                tracking_number: header.tracking_number,
-                timestamp: header.timestamp,
-                body,
-            },
-            consumed,
-        ),
+        BodyRead::Got(body, consumed) => {
+            if strict {
+                let p = strays::stray(s, tag, s.len());
+                if p != 0 {
+                    return Window::Refused(5, p);
+                }
+            }
+            Window::Message(
+                Message {
+                    tag,
+                    stock_locate: header.stock_locate,
+                    tracking_number: header.tracking_number,
+                    timestamp: header.timestamp,
+                    body,
+                },
+                consumed,
+            )
+        }
         BodyRead::No(e) => match e {
-            Fault::Short => Window::Incomplete,
-            Fault::Refused(n, place) => Window::Refused(n, place),
+            Fault::Short => {
+                if strict {
+                    let p = strays::stray(s, tag, s.len());
+                    if p != 0 {
+                        return Window::Refused(5, p);
+                    }
+                }
+                Window::Incomplete
+            }
+            Fault::Refused(n, place) => {
+                if strict {
+                    let p = strays::stray(s, tag, place);
+                    if p != 0 {
+                        return Window::Refused(5, p);
+                    }
+                }
+                Window::Refused(n, place)
+            }
         },
     }
 }

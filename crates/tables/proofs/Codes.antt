@@ -10,7 +10,7 @@ use native.Mathlib.Omega.{arith}
 use lib.Dec.{T, eqb}
 use types.Run.{OneOf}
 use borrow.Author.Tests.{eqb-true, eqb-false}
-use Rattle.format.specs.Layout.{Kind, num, code, width, member, Got, fine, wrong, judge, placed, field}
+use Rattle.format.specs.Layout.{Kind, num, code, width, member, Got, fine, wrong, judge, placed, field, judgeBy}
 use Rattle.format.specs.Meaning.{num8M}
 use Rattle.format.specs.declared.Fault.{Fault}
 use Rattle.format.specs.declared.Num8.{Num8}
@@ -51,7 +51,7 @@ pub code-short : (k : Kind) (s : List ℕ) (at : ℕ) {f : Num8} {e : Fault} →
 code-short k s at {f} {e} w p q = ap num8M q ∙ sym (num-short k 1 s at e w (sym p ∙ ap num8M q))
 
 judged-code : (set : List ℕ) (b : ℕ) → judge (code set) (b ∷ []) ≡ cond (member b set) (fine b) (wrong 2 0)
-unfolding judge
+unfolding judgeBy
 judged-code set b = rw zero-add
 
 pub code-got : (set s : List ℕ) (at : ℕ) {f : Num8} {g : Got} {b : ℕ} {t : Bool} → num8M f ≡ field (num 1) s at → f ≡ Got8 b → t ≡ member b set

@@ -1,4 +1,4 @@
--- Reading what was written gives the record, and consumes what was written: by every reading, what is written by it is read back by it.
+-- Reading what was written gives the record, and consumes what was written: what is written by a reading is read back by it, where it is not strict.
 -- Assumes nothing.
 use mathlib.Core.Path.{_≡_, refl, sym, ap, _∙_, subst}
 use mathlib.Core.List.{List, [], _∷_, _++_, append-assoc}
@@ -11,6 +11,7 @@ use lib.ListN.{length, drop}
 use borrow.Author.Tests.{eqb-true, ltb-true}
 use Rattle.format.specs.Layout.{Kind, widths, accepted, read}
 use Rattle.format.specs.Rows.{rows, rowsIn, Found, found, none, find, fieldsIn, sizeIn, sizeOf, sizeBy, under, header, message, window}
+use Rattle.format.specs.Strict.{ordinary}
 use Rattle.format.specs.declared.Reading.{Reading}
 use Rattle.format.proofs.Runs.{Reads, reads}
 use Rattle.format.proofs.Tests.{and-split}
@@ -90,7 +91,7 @@ module _ (rd : Reading) (m : Message) (n : ℕ) (a : Accepts rd m n) (h : Sized 
       let r = reads-write ks (fieldsOf (m .body)) (whole (m .body) .1) b (a .texts) (codes (m .body) (a .crosses)) (headBytes m) q in
       subst (λ x. Reads (headBytes m ++ (bodyBytes m ++ q)) ks x (fieldsOf (m .body))) (length-write header (headOf m)) r
 
-  window-encode : (q : List ℕ) → window rd (encode m ++ q) ≡ accepted (messageValues m) n
+  window-encode : (q : List ℕ) → window (ordinary rd) (encode m ++ q) ≡ accepted (messageValues m) n
   unfolding encode window
   window-encode q =
       let t : ℕ = tagOf (m .body) in
@@ -99,8 +100,8 @@ module _ (rd : Reading) (m : Message) (n : ℕ) (a : Accepts rd m n) (h : Sized 
       let e : (headBytes m ++ write (layout (m .tag)) (fieldsOf (m .body))) ++ q ≡ s =
       append-assoc (headBytes m) (write (layout (m .tag)) (fieldsOf (m .body))) q
       ∙ ap (λ k. headBytes m ++ (write (layout k) (fieldsOf (m .body)) ++ q)) (a .agrees) in
-      let g : read header s 0 [] (message rd s) ≡ message rd s (headOf m) 13 = reads (reads-header (bodyBytes m ++ q)) [] (message rd s) in
-      let k : message rd s (headOf m) 13 ≡ under (find (rowsIn rd) t) s 13 (v ++ (t ∷ [])) =
+      let g : read header s 0 [] (message (ordinary rd) s) ≡ message (ordinary rd) s (headOf m) 13 = reads (reads-header (bodyBytes m ++ q)) [] (message (ordinary rd) s) in
+      let k : message (ordinary rd) s (headOf m) 13 ≡ under (find (rowsIn rd) t) s 13 (v ++ (t ∷ [])) =
       ap (λ k. under (find (rowsIn rd) k) s 13 (v ++ (k ∷ []))) (a .agrees) in
       let u : under (find (rowsIn rd) t) s 13 (v ++ (t ∷ [])) ≡ read (layout t) s 13 (v ++ (t ∷ [])) accepted =
       body-under rd t s 13 (v ++ (t ∷ [])) (subst (λ k. 0 < sizeBy rd k) (a .agrees) (a .has)) in
@@ -109,12 +110,12 @@ module _ (rd : Reading) (m : Message) (n : ℕ) (a : Accepts rd m n) (h : Sized 
       let w : (v ++ (t ∷ [])) ++ fieldsOf (m .body) ≡ v ++ values (m .body) = append-assoc v (t ∷ []) (fieldsOf (m .body)) ∙ ap (λ x. v ++ x) (whole (m .body) .0) in
       let z : sizeOf (m .tag) ≡ 11 + widths (layout t) = ap sizeOf (a .agrees) ∙ body-size (m .body) in
       let o : 13 + widths (layout t) ≡ n = omega (arith, a .size) in
-      ap (λ x. read header x 0 [] (message rd x)) e ∙ g ∙ k ∙ u ∙ r ∙ ap (λ x. accepted x (13 + widths (layout t))) w ∙ ap (accepted (v ++ values (m .body))) o
+      ap (λ x. read header x 0 [] (message (ordinary rd) x)) e ∙ g ∙ k ∙ u ∙ r ∙ ap (λ x. accepted x (13 + widths (layout t))) w ∙ ap (accepted (v ++ values (m .body))) o
 
 -- reading what was written gives the record, and consumes 2 + size: the written bytes
 pub read-back : (rd : Reading) (m : Message) (s : List ℕ) (n : ℕ) → writtenOf rd m (length s) ≡ Done n → FieldsFit (Done n) m
-    → (windowOf rd (bufferAfter (Done n) m s) ≡ Accepted m n) × (n ≡ 2 + sizeOf (m .tag))
+    → (windowOf (ordinary rd) (bufferAfter (Done n) m s) ≡ Accepted m n) × (n ≡ 2 + sizeOf (m .tag))
 unfolding bufferAfter FieldsFit
 read-back rd m s n e f =
     let a = accepts rd m (length s) n e in
-    (sym (exactly rd (encode m ++ drop n s) (Accepted m n) (sym (window-encode rd m n a (f .0) (f .1) (drop n s)))), sym (a .size))
+    (sym (exactly (ordinary rd) (encode m ++ drop n s) (Accepted m n) (sym (window-encode rd m n a (f .0) (f .1) (drop n s)))), sym (a .size))

@@ -5,6 +5,7 @@ use mathlib.Core.List.{List}
 use Prim.Native.Nat.{ℕ}
 use lib.ListN.{length, drop}
 use Rattle.format.specs.Rows.{window}
+use Rattle.format.specs.Strict.{ordinary}
 use Rattle.format.specs.declared.Reading.{Reading}
 use Rattle.format.proofs.Bytes.{Bytes}
 use Rattle.records.specs.declared.Message.{Message}
@@ -12,6 +13,7 @@ use Rattle.reader.specs.declared.Window.{Window}
 use Rattle.reader.specs.declared.Window.the-variants.{Message as Accepted}
 use Rattle.reader.specs.Window.{windowM, windowOf}
 use Rattle.reader.proofs.Back.{exactly}
+use Rattle.laws.proofs.Answers.{stricter}
 use Rattle.writer.specs.declared.Written.{Written}
 use Rattle.writer.specs.declared.Written.the-variants.{Done}
 use Rattle.writer.specs.Writing.{writtenOf, bufferAfter, FieldsFit}
@@ -28,7 +30,9 @@ module _ (rd : Reading) where
   write-then-read m s {u} {w} {r} q a f e =
       let k : u ≡ writtenIn rd m s = a ∙ ap (λ x. bufferAfter x m s) q in
       let z : r ≡ windowOf rd (writtenIn rd m s) = exactly rd (writtenIn rd m s) r (e ∙ ap (window rd) k) in
-      (z, k, λ n o. z ∙ ap (λ x. windowOf rd (bufferAfter x m s)) o ∙ read-back rd m s n o (subst (λ x. FieldsFit x m) (q ∙ o) f) .0)
+      let b : (n : ℕ) → writtenOf rd m (length s) ≡ Done n → windowOf (ordinary rd) (writtenIn rd m s) ≡ Accepted m n =
+      λ n o. ap (λ x. windowOf (ordinary rd) (bufferAfter x m s)) o ∙ read-back rd m s n o (subst (λ x. FieldsFit x m) (q ∙ o) f) .0 in
+      (z, k, λ n o. rw (z, ← b n o) (stricter rd (writtenIn rd m s)))
 
   -- the reader's answer x is a message m, and then come the writer's answer w and buffer u
   pub read-then-write : (s t : List ℕ) (x : Window) (m : Message) (k : ℕ) {u : List ℕ} {w : Written} → Bytes s → windowM x ≡ window rd s

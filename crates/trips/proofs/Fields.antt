@@ -11,7 +11,7 @@ use lib.ListN.{length, getD, take, drop, length-append}
 use lib.Seq.{take-at, drop-append-seam}
 use Rattle.format.specs.Codes.{subtypes}
 use Rattle.format.specs.Utf8.{wellFormed}
-use Rattle.format.specs.Layout.{Kind, num, time, text, code, subtype, width, widths, be, part, member, fine, judge, got, placed, field}
+use Rattle.format.specs.Layout.{Kind, num, time, text, code, subtype, width, widths, be, part, member, fine, judge, got, placed, field, judgeBy}
 use Rattle.format.proofs.Bytes.{Bytes, be-snoc, part-split, part-more}
 use Rattle.format.proofs.Fields.{field-judged, field-fine, text-fine, code-fine}
 use Rattle.format.proofs.Runs.{Reads, end, _⨾_}
@@ -42,7 +42,7 @@ be-digits (suc w) v h =
 
 -- a value that fits, is UTF-8 if a text and allowed if a code, is judged to be itself
 judged : (k : Kind) (v : ℕ) → v < 256 ^ width k → textFine k v ≡ true → codeFine k v ≡ true → judge k (digits (width k) v) ≡ fine v
-unfolding judge
+unfolding judgeBy
 judged (num w) v s t c = ap fine (be-digits w v s)
 judged time v s t c = ap fine (be-digits 6 v s)
 judged (text w) v s t c = rw t (ap fine (be-digits w v s))
@@ -97,7 +97,7 @@ record Took (k : Kind) (bs : List ℕ) (v : ℕ) : Type 0 where
   pub codes : codeFine k v ≡ true
 
 took : (k : Kind) (bs : List ℕ) (v : ℕ) → digits (width k) (be bs) ≡ bs → judge k bs ≡ fine v → Took k bs v
-unfolding judge
+unfolding judgeBy
 took (num w) bs v d e = let q : be bs ≡ v = cc in subst (Took (num w) bs) q (record { bytes = d; texts = refl; codes = refl })
 took time bs v d e = let q : be bs ≡ v = cc in subst (Took time bs) q (record { bytes = d; texts = refl; codes = refl })
 took (text w) bs v d e =

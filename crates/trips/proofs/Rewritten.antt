@@ -8,13 +8,14 @@ use native.Mathlib.Omega.{arith}
 use Prim.Native.Nat.{ℕ, _+_, _^_, _≤_, _<_}
 use lib.ListN.{length, getD, drop, take, length-take}
 use lib.Seq.{drop-append-seam, take-at, take-take}
-use Rattle.format.specs.Layout.{time, widths, be, part, judge, accepted}
+use Rattle.format.specs.Layout.{time, widths, be, part, accepted, judgeBy}
 use Rattle.format.specs.Rows.{rows, rowsIn, Found, found, none, find, fieldsIn, sizeIn, under, header, sizeOf, sizeBy, bodyIn, window}
 use Rattle.format.specs.declared.Reading.{Reading}
 use Rattle.format.proofs.Tests.{le-or-lt}
 use Rattle.format.proofs.Bytes.{Bytes, be-below, be-one, part-split}
 use Rattle.format.proofs.Fields.{field-judged, field-num}
 use Rattle.format.proofs.Runs.{Reads, end, _⨾_}
+use Rattle.format.proofs.Strict.{ordinarily}
 use Rattle.format.proofs.Windows.{window-there, window-cut}
 use Rattle.laws.proofs.Rows.{all-read}
 use Rattle.format.proofs.Editions.{row-in}
@@ -63,7 +64,7 @@ opened rd s m n e =
     (λ l.
     let t : ℕ = getD s 2 0 in
     let h : List ℕ = t ∷ be (part s 3 2) ∷ be (part s 5 2) ∷ be (part s 7 6) ∷ [] in
-    let p = pre-accepted h (bodyIn rd t s) (messageValues m) n (sym (window-there rd s l) ∙ e) in
+    let p = pre-accepted h (bodyIn rd t s) (messageValues m) n (sym (window-there rd s l) ∙ ordinarily rd s (messageValues m) n e) in
     let d = body-read rd t s (p .0) n (p .1) in
     let at : (i : ℕ) → getD (messageValues m) i 0 ≡ getD (h ++ p .0) i 0 = λ i. sym (ap (λ vs. getD vs i 0) (p .2)) in
     let qw : p .0 ≡ values (m .body) = ap (drop 4) (p .2) in
@@ -84,7 +85,7 @@ opened rd s m n e =
 
 -- the header's fields from the tag on
 head-reads : (s : List ℕ) → 13 ≤ length s → Reads s (drop 1 header) 2 (getD s 2 0 ∷ be (part s 3 2) ∷ be (part s 5 2) ∷ be (part s 7 6) ∷ [])
-unfolding judge
+unfolding judgeBy
 head-reads s h =
     sym (field-num 1 s 2 (omega arith) (sym (be-one s 2 (omega arith))))
     ⨾ sym (field-num 2 s 3 (omega arith) refl)

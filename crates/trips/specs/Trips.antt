@@ -10,7 +10,7 @@ use Rattle.format.specs.declared.Reading.{Reading}
 use Rattle.records.specs.declared.Message.{Message}
 use Rattle.reader.specs.declared.Window.{Window}
 use Rattle.reader.specs.declared.Window.the-variants.{Message as Accepted, Incomplete, Refused}
-use Rattle.reader.specs.Window.{windowOf}
+use Rattle.reader.specs.Window.{windowOf, Stricter}
 use Rattle.writer.specs.declared.Written.the-variants.{Done}
 use Rattle.writer.specs.Writing.{writtenOf, bufferAfter}
 use Rattle.trips.specs.declared.Again.{Again}
@@ -31,9 +31,10 @@ againIn rd (Accepted m n) t = writtenIn rd m t
 againIn rd Incomplete t = t
 againIn rd (Refused n p) t = t
 
--- the record m, where it was written into t, is read back by the answer r, which consumes as many bytes as were written
+-- the record m, where it was written into t, is read back by the answer r, which consumes as many bytes as were written; but a strict reading, which does
+-- not restrict the writer, may refuse it with 4 or 5
 abbrev pub ReadBack : Reading → Message → List ℕ → Window → Type 0
-ReadBack rd m t r = (n : ℕ) → writtenOf rd m (length t) ≡ Done n → r ≡ Accepted m n
+ReadBack rd m t r = (n : ℕ) → writtenOf rd m (length t) ≡ Done n → Stricter rd (Accepted m n) r
 
 -- the one exception does not hold of the bytes s, which were read as m: the length is the size
 abbrev pub Regular : List ℕ → Message → Type 0

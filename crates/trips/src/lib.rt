@@ -15,7 +15,8 @@ pub enum Again {
     NotRead(u8, usize),
 }
 
-// Writes the record and reads the buffer: the answer is that of the buffer behind the write. A record that was written is read back.
+// Writes the record and reads the buffer: the answer is that of the buffer behind the write. A record that was written is read back, unless the reading is
+// strict and refuses its time or a text.
 pub fn write_read(m: Message, buf: &mut [u8], reading: Reading) -> Window
     ensures { λ r. ⌜ r ≡ windowOf reading (writtenIn reading m (now (buf .entry))) ⌝ }
     ensures { λ _. ⌜ now (buf .exit) ≡ writtenIn reading m (now (buf .entry)) ⌝ }

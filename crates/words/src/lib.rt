@@ -6,10 +6,12 @@ ghost use Rattle.words.specs.Words.{equal, wordOf, unknownOf, onceOf, wi
 use format::Edition;
 use format::Reading;
 
-// What one word asks for: `quiet`, lines for what is refused only; `later`, the later edition; `status`, the byte at the end; anything else is no word.
+// What one word asks for: `quiet`, lines for what is refused only; `later`, the later edition; `strict`, the strict reading; `status`, the byte at the
+// end; anything else is no word.
 pub enum Word {
     Quiet,
     Later,
+    Strict,
     Status,
     Other,
 }
@@ -18,6 +20,7 @@ pub enum Word {
 pub struct Words {
     pub quiet: bool,
     pub later: bool,
+    pub strict: bool,
     pub status: bool,
     pub known: bool,
 }
@@ -57,6 +60,9 @@ pub fn word_of(s: &[u8]) -> Word
     if is(s, b"later") {
         return Word::Later;
     }
+    if is(s, b"strict") {
+        return Word::Strict;
+    }
     if is(s, b"status") {
         return Word::Status;
     }
@@ -70,6 +76,7 @@ fn unknown(w: Words) -> Words
     Words {
         quiet: w.quiet,
         later: w.later,
+        strict: w.strict,
         status: w.status,
         known: false,
     }
@@ -95,6 +102,7 @@ pub fn with(w: Words, word: Word, has: bool) -> Words
                 Words {
                     quiet: true,
                     later: w.later,
+                    strict: w.strict,
                     status: w.status,
                     known: once(w.known, w.quiet),
                 }
@@ -105,12 +113,21 @@ pub fn with(w: Words, word: Word, has: bool) -> Words
         Word::Later => Words {
             quiet: w.quiet,
             later: true,
+            strict: w.strict,
             status: w.status,
             known: once(w.known, w.later),
+        },
+        Word::Strict => Words {
+            quiet: w.quiet,
+            later: w.later,
+            strict: true,
+            status: w.status,
+            known: once(w.known, w.strict),
         },
         Word::Status => Words {
             quiet: w.quiet,
             later: w.later,
+            strict: w.strict,
             status: true,
             known: once(w.known, w.status),
         },
@@ -142,6 +159,7 @@ pub fn asked(has: bool) -> Words {
     let mut w = Words {
         quiet: false,
         later: false,
+        strict: false,
         status: false,
         known: true,
     };
@@ -155,17 +173,20 @@ pub fn asked(has: bool) -> Words {
     w
 }
 
-// How the words ask to read: by the old edition, or by the later one where `later` is among them.
+// How the words ask to read: by the old edition, or by the later one where `later` is among them; strictly where `strict` is.
 pub fn reading(w: Words) -> Reading
     ensures { λ r. ⌜ r ≡ readingOf w ⌝ }
 {
+    let strict = w.strict;
     if w.later {
         return Reading {
             edition: Edition::Later,
+            strict,
         };
     }
     Reading {
         edition: Edition::Old,
+        strict,
     }
 }
 
