@@ -34,7 +34,7 @@ pub any-cutting : {rd : Reading} {may : Cutting} {input : List ℕ} {ms : List R
     → heardOf rd input ≡ record { messages = ms; stop = a }
 any-cutting p h = ⊎-elim (λ e. e) (λ e. absurd (e .1 h)) (ended p)
 
--- that stop is nothing more, 1, 2, 3 or 10: no call of the run refused with 30 to 34
+-- that stop is nothing more, 1 to 5 or 10: no call of the run refused with 30 to 34
 pub stops-well : {rd : Reading} {may : Cutting} {input : List ℕ} {ms : List Record} {a : Answer} → Stopped rd may input ms a → Fits input → Stop a
 stops-well {rd} {input = input} p h = subst Stop (ap (λ (x : Heard). x .stop) (any-cutting p h)) (stop-is rd input)
 

@@ -8,7 +8,7 @@ use reader::Window;
 use records::Message;
 
 // The state of a stream. The window is the part of the buffer from start to end; the counts are of bytes told, of read calls and of messages answered.
-// The mark is set by a refusal with 1, 2, 3, 10 or 11, and a message clears it.
+// The mark is set by a refusal with 1 to 5, 10 or 11, and a message clears it.
 pub struct Stream {
     pub start: usize,
     pub end: usize,
