@@ -1,8 +1,9 @@
 -- Lists of single calls. A list is calls, one behind the other. A call is 17 numbers of eight bytes, high byte first, then A's explicit bytes, then B's.
--- The numbers: which call, and 100 more where it is made by the later edition; eight of its own; A's length, fill, place and count of explicit bytes; B's. A fill of 0 is zeros, any other f puts
--- (i mod 251 + f) mod 256 at place i; the explicit bytes stand over the fill. oracle/calls makes such lists.
+-- The numbers: which call, and 100 more where it is made by the later edition, 200 more where by a strict reading; eight of its own; A's length, fill, place and
+-- count of explicit bytes; B's. A fill of 0 is zeros, any other f puts (i mod 251 + f) mod 256 at place i; the explicit bytes stand over the fill. oracle/calls
+-- makes such lists.
 -- Assumes nothing.
-use Prim.Native.Nat.{ℕ, zero, suc, _+_, _-_, _*_, _%_, min}
+use Prim.Native.Nat.{ℕ, zero, suc, _+_, _-_, _*_, _/_, _%_, min}
 use mathlib.Core.Bool.{cond, _&&_}
 use mathlib.Core.List.{List, [], _∷_, _++_}
 use lib.Dec.{leb, ltb, eqb}
@@ -62,9 +63,9 @@ askedOf list at roomA roomB =
     let t = drop at list in
     record { v = asksOf t 17; na = min (askOf t 9) roomA; nb = min (askOf t 13) roomB; next = length list - length (fromNext t) }
 
--- the reading that a call's first number says
+-- the reading that the hundreds of a call's first number say: 0 by the old edition, 1 by the later one, 2 and 3 by them strictly
 abbrev pub readingFor : ℕ → Reading
-readingFor n = record { edition = cond (ltb n 100) Old Later }
+readingFor n = record { edition = cond (eqb (n / 100 % 2) 0) Old Later; strict = leb 200 n }
 
 -- the sum of bytes, before it is cut to 32 bits: each counts, one more than it is, as often as there are bytes from it on
 unfoldable pub weightOf : List ℕ → ℕ

@@ -176,5 +176,8 @@ pub fn start() {
         print_frames(w);
         return;
     }
-    words::misuse(w, b"frames: its words are quiet, later and status\n");
+    words::misuse(
+        w,
+        b"frames: its words are quiet, later, strict and status\n",
+    );
 }

@@ -23,14 +23,14 @@ use Rattle.lines.specs.declared.Look.{Look}
 use Rattle.lines.specs.declared.Look.the-variants.{Tag, Bad as Ill}
 use Rattle.lines.specs.Whole.{lookOf}
 
-pub plain-look : (rd : Reading) (s rows : List ℕ) (size : ℕ) → Bytes s → Table rows → plainOf s rows ≡ size → 2 ≤ size → lookOf (judgeOf (windowOf rd) s size) ≡ Tag (getD s 2 0)
+pub plain-look : (rd : Reading) (s rows : List ℕ) (size : ℕ) → Bytes s → Table (rd .strict) rows → plainOf s rows ≡ size → 2 ≤ size → lookOf (judgeOf (windowOf rd) s size) ≡ Tag (getD s 2 0)
 unfolding judgeOf
 plain-look rd s rows size b t e h =
-    let f = plain-accepts s rows size b t e (omega arith) .0 in
+    let f = plain-accepts rd s rows size b t e (omega arith) in
     let m : Message = f .message in
-    let c = covers rd s m size (f .accepted rd) in
+    let c = covers rd s m size (f .accepted) in
     let n : min size 52 ≡ size = omega (arith, c .0, sizes-50 (m .tag)) in
-    let w : windowOf rd (take (min size 52) s) ≡ Message' m size = rw n (first rd s m size (f .accepted rd)) in
+    let w : windowOf rd (take (min size 52) s) ≡ Message' m size = rw n (first rd s m size (f .accepted)) in
     let v : verdictOf (Message' m size) size ≡ Accepted m = ap (λ x. cond x (Bad 21 0) (Accepted m)) (le-ltb size size (omega arith)) in
     ap (λ x. lookOf (verdictOf x size)) w ∙ ap lookOf v ∙ ap Tag (f .tag)
 

@@ -187,9 +187,10 @@ fn look_of(what: Verdict) -> Look
     }
 }
 
-// The frame rule's answer, from a frame's size and its first bytes. A plain message is accepted without a jump by its tag.
+// The frame rule's answer, from a frame's size and its first bytes. A plain message is accepted without a jump by its tag; by a strict reading's table none is
+// plain.
 fn looked(s: &[u8], size: usize, rows: &[u64; 256], reading: Reading) -> Look
-    requires { ⌜ (2 ≤ size) × Table (now rows) ⌝ }
+    requires { ⌜ (2 ≤ size) × Table (reading .strict) (now rows) ⌝ }
     ensures { λ r. ⌜ r ≡ lookOf (judgeOf (windowOf reading) (now (s .entry)) size) ⌝ }
 {
     if plain::plain(s, rows) == size {
@@ -232,7 +233,7 @@ fn told_accepted(
     quiet: bool,
     reading: Reading,
 ) -> Halted
-    requires { ⌜ Asked (now s) have from offset (now table) (length (now out)) to × Table (now rows) ⌝ }
+    requires { ⌜ Asked (now s) have from offset (now table) (length (now out)) to × Table (reading .strict) (now rows) ⌝ }
     ensures { λ r. ⌜ Halts quiet (windowOf reading) (now (s .entry)) have from offset (now (out .entry)) to (now (out .exit)) r ⌝ }
 {
     let mut i = from;
@@ -320,7 +321,7 @@ fn told_frames(
     quiet: bool,
     reading: Reading,
 ) -> Gone
-    requires { ⌜ Asked (now s) have from offset (now table) (length (now out)) to × Table (now rows) × (2 * frames ≤ offset) × (accepted ≤ frames) ⌝ }
+    requires { ⌜ Asked (now s) have from offset (now table) (length (now out)) to × Table (reading .strict) (now rows) × (2 * frames ≤ offset) × (accepted ≤ frames) ⌝ }
     ensures { λ r. ⌜ Goes quiet (windowOf reading) (now (s .entry)) have from offset frames accepted (now (out .entry)) to (now (out .exit)) r ⌝ }
 {
     let mut i = from;
@@ -414,7 +415,7 @@ fn from_start(
     reading: Reading,
 ) -> Blocked
     requires { ⌜ (from ≤ length (now block)) × (at ≤ length (now out)) × (72 ≤ length (now out)) × (offset + (length (now block) - from) < 2 ^ 64) × (2 * frames ≤ offset) × (accepted ≤ frames)
-        × (now table ≡ pairs) × Table (now rows) ⌝ }
+        × (now table ≡ pairs) × Table (reading .strict) (now rows) ⌝ }
     ensures { λ r. ⌜ Called quiet (windowOf reading) (startOf offset frames accepted reading) (now (block .entry)) from (now (out .entry)) at (now (out .exit)) r ⌝ }
 {
     let g = told_frames(
@@ -461,7 +462,7 @@ fn from_inside(
     at: usize,
     quiet: bool,
 ) -> Blocked
-    requires { ⌜ (from < length (now block)) × (at + 72 ≤ length (now out)) × (readyOf w (length (now block) - from) ≡ true) × (now table ≡ pairs) × Table (now rows) ⌝ }
+    requires { ⌜ (from < length (now block)) × (at + 72 ≤ length (now out)) × (readyOf w (length (now block) - from) ≡ true) × (now table ≡ pairs) × Table (w .reading .strict) (now rows) ⌝ }
     ensures { λ r. ⌜ Called quiet (windowOf (w .reading)) w (now (block .entry)) from (now (out .entry)) at (now (out .exit)) r ⌝ }
 {
     let reading = w.reading;
@@ -565,9 +566,9 @@ pub fn walk_block(
         };
     }
     let table = PAIRS;
-    let rows = plain::rows();
+    let reading = w.reading;
+    let rows = plain::rows(reading.strict);
     if w.seen == 0 {
-        let reading = w.reading;
         return from_start(
             block,
             from,

@@ -1,207 +1,161 @@
--- A plain message is accepted, and its end is where the table says: one law over the fields of a body, and the bits of a row. And there is one table.
+-- A plain message is accepted, and its end is where the table says; so it is by a strict reading, where the strict test passes it. And there is one table.
 -- Assumes nothing.
 use Prim.Native.Nat.{ℕ, _+_, _*_, _/_, _%_, _^_, _≤_, _<_}
 use mathlib.Core.Path.{_≡_, refl, sym, ap, _∙_}
 use mathlib.Core.Bool.{Bool, true, false, cond, _&&_}
 use mathlib.Core.List.{List, [], _∷_}
 use native.Mathlib.Omega.{arith}
-use borrow.Author.Tests.{leb-true, eqb-true, eqb-false}
+use borrow.Author.Tests.{leb-true, ltb-true, eqb-true, lt-leb, le-ltb}
 use lib.Bits.{bitAnd}
-use lib.Dec.{T, leb, eqb, eqb→eq}
+use lib.Dec.{leb, ltb, eqb}
 use lib.ListN.{length, getD}
 use lib.Seq.{ext-getD}
-use Rattle.format.specs.Codes.{side}
-use Rattle.format.specs.Layout.{Kind, num, time, text, code, subtype, widths, member, be, part, got, judge, field, accepted}
-use Rattle.format.specs.Rows.{Row, Found, found, none, find, under, bodyIn}
-use Rattle.format.specs.declared.Reading.{Reading}
+use Rattle.format.specs.Layout.{be, part, day, accepted}
+use Rattle.format.specs.Rows.{fieldsIn, bodyIn, window}
 use Rattle.format.specs.Rows as Rows
-use Rattle.format.specs.Utf8.{wellFormed}
-use Rattle.format.proofs.Bytes.{Bytes, be-one}
-use Rattle.format.proofs.Fields.{field-num, field-text, field-judged}
-use Rattle.format.proofs.Runs.{Reads, end, _⨾_, reads}
-use Rattle.format.proofs.Tests.{both}
-use Rattle.format.proofs.Text.{ascii}
-use Rattle.format.proofs.Windows.{pre, window-there}
+use Rattle.format.specs.Strict.{ordinary, strayIn, strayOf, stricter}
+use Rattle.format.specs.declared.Reading.{Reading}
+use Rattle.format.proofs.Bytes.{Bytes, be-split, be-below}
 use Rattle.format.proofs.Editions.{in-front}
+use Rattle.format.proofs.Runs.{Reads, reads}
+use Rattle.format.proofs.Strict.{window-strictly}
+use Rattle.format.proofs.Tests.{and-split}
+use Rattle.format.proofs.Windows.{pre, window-there}
 use Rattle.records.specs.declared.Message.{Message}
 use Rattle.reader.specs.declared.Window.the-variants.{Message as Accepted}
 use Rattle.reader.specs.Window.{messageFrom, windowFrom, windowOf}
-use Rattle.laws.proofs.Window.{Sized, find-sized}
-use Rattle.plain.specs.Plain.{same, light, ends, rowOf, Table, endBy, plainOf}
+use Rattle.plain.specs.Plain.{Table, endBy, plainOf, tightBy, strictlyOf}
+use Rattle.plain.proofs.Bodies.{light-reads, found-end, Lit, by-table}
+use Rattle.plain.proofs.Strays.{tidy, unstrayed}
 
-same-is : (xs ys : List ℕ) → T (same xs ys) → xs ≡ ys
-same-is [] [] t = refl
-same-is [] (y ∷ ys) t = absurd t
-same-is (x ∷ xs) [] t = absurd t
-same-is (x ∷ xs) (y ∷ ys) t =
-    let q = both (eqb x y) (same xs ys) t in
-    let a : x ≡ y = eqb→eq x y (q .0) in
-    let b : xs ≡ ys = same-is xs ys (q .1) in
-    cc
+-- ---- the tests
 
--- an order's side and stock are right
-record Order (s : List ℕ) : Type 0 where
-  legal : member (getD s 21 0) side ≡ true
-  formed : wellFormed (part s 26 8) ≡ true
+-- where the ordinary test gives a place, the window has the bytes that it looked at; and no place is above 127
+pub record Tested (w rows : List ℕ) (n : ℕ) : Type 0 where
+  pub long : 52 ≤ length w
+  pub low : n < 128
+  end : endBy (getD rows (getD w 2 0) 0) (getD rows (getD w 21 0) 0) (be (part w 26 8)) ≡ n
 
-side-got : (s : List ℕ) → 22 ≤ length s → member (getD s 21 0) side ≡ true → field (code side) s 21 ≡ got (getD s 21 0)
-unfolding judge
-side-got s h m = field-judged (code side) s 21 h ∙ rw (be-one s 21 (omega arith), m)
-
--- the two fields that are looked at, where they stand
-at-21 : (order : Bool) (set s : List ℕ) (at : ℕ) → T (order && (eqb at 21 && same set side)) → at + 1 ≤ length s → (T order → Order s)
-    → field (code set) s at ≡ got (getD s 21 0)
-at-21 order set s at t h p =
-    let a = both order (eqb at 21 && same set side) t in
-    let b = both (eqb at 21) (same set side) (a .1) in
-    let i : at ≡ 21 = eqb→eq at 21 (b .0) in
-    let e : set ≡ side = same-is set side (b .1) in
-    rw (i, e) (side-got s (omega arith) (p (a .0) .legal))
-
-at-26 : (order : Bool) (w : ℕ) (s : List ℕ) (at : ℕ) → T (order && (eqb at 26 && eqb w 8)) → at + w ≤ length s → (T order → Order s)
-    → field (text w) s at ≡ got (be (part s 26 8))
-at-26 order w s at t h p =
-    let a = both order (eqb at 26 && eqb w 8) t in
-    let b = both (eqb at 26) (eqb w 8) (a .1) in
-    let i : at ≡ 26 = eqb→eq at 26 (b .0) in
-    let e : w ≡ 8 = eqb→eq w 8 (b .1) in
-    rw (i, e) (sym (field-text 8 s 26 (omega arith) refl (p (a .0) .formed)))
-
--- every field has its value
-light-reads : (order : Bool) (ks : List Kind) (s : List ℕ) (at : ℕ) → T (light order ks at) → at + widths ks ≤ length s → (T order → Order s)
-    → (vs : List ℕ) × Reads s ks at vs
-light-reads order [] s at t h p = ([], end)
-light-reads order (num w ∷ ks) s at t h p =
-    let r = light-reads order ks s (at + w) t (omega arith) p in
-    (_, sym (field-num w s at (omega arith) refl) ⨾ r .1)
-light-reads order (time ∷ ks) s at t h p = absurd t
-light-reads order (text w ∷ ks) s at t h p =
-    let q = both (order && (eqb at 26 && eqb w 8)) (light order ks (at + w)) t in
-    let r = light-reads order ks s (at + w) (q .1) (omega arith) p in
-    (_, at-26 order w s at (q .0) (omega arith) p ⨾ r .1)
-light-reads order (code set ∷ ks) s at t h p =
-    let q = both (order && (eqb at 21 && same set side)) (light order ks (at + 1)) t in
-    let r = light-reads order ks s (at + 1) (q .1) (omega arith) p in
-    (_, at-21 order set s at (q .0) (omega arith) p ⨾ r .1)
-light-reads order (subtype ∷ ks) s at t h p = absurd t
-
--- a row that every edition has is that of its tag, whatever the reading
-body-in : (rd : Reading) (t : ℕ) (r : Row) {s vs : List ℕ} → find Rows.base t ≡ found r → Reads s (r .body) 13 vs
-    → bodyIn rd t s ≡ accepted (t ∷ vs) (13 + widths (r .body))
-unfolding bodyIn
-body-in rd t r {s} f u = ap (λ x. under x s 13 (t ∷ [])) (in-front Rows.base (Rows.later (rd .edition)) t f) ∙ reads u (t ∷ []) accepted
-
--- a message in front that ends at n, by any reading
-pub record Front (w : List ℕ) (n : ℕ) : Type 0 where
-  pub message : Message
-  pub accepted : (rd : Reading) → windowOf rd w ≡ Accepted message n
-  pub tag : message .tag ≡ getD w 2 0
-
-accepts : (w : List ℕ) (order : Bool) (r : Row) → find Rows.base (getD w 2 0) ≡ found r → Sized (found r) → 52 ≤ length w → T (light order (r .body) 13)
-    → (T order → Order w) → Front w (2 + r .size)
-unfolding windowOf
-accepts w order r e z h t p =
-    let v = light-reads order (r .body) w 13 t (omega arith) p in
-    let i : 13 + widths (r .body) ≡ 2 + r .size = omega arith in
-    let m : Message = messageFrom (getD w 2 0 ∷ be (part w 3 2) ∷ be (part w 5 2) ∷ be (part w 7 6) ∷ getD w 2 0 ∷ v .0) in
-    record {
-      message = m;
-      accepted = λ rd. ap windowFrom (window-there rd w (omega arith) ∙ ap (pre _) (body-in rd (getD w 2 0) r e (v .1))) ∙ ap (Accepted m) i;
-      tag = refl;
-    }
-
--- what a place that is not zero says of the two rows and the stock
-record Found-end (r c stock n : ℕ) : Type 0 where
-  flagged : r / 256 % 2 + r / 2 ^ 63 * (c / 512 % 2) ≡ 0 → ⊥
-  low : bitAnd stock (r / 2 ^ 63 * 0x8080808080808080) ≡ 0
-  place : r % 128 ≡ n
-
-found-end : (r c stock n : ℕ) → endBy r c stock ≡ n → 0 < n → Found-end r c stock n
-found-end r c stock n e h = go (eqb (r / 256 % 2 + r / 2 ^ 63 * (c / 512 % 2)) 0) (eqb (bitAnd stock (r / 2 ^ 63 * 0x8080808080808080)) 0) refl refl e
-  where
-    go : (a b : Bool) → eqb (r / 256 % 2 + r / 2 ^ 63 * (c / 512 % 2)) 0 ≡ a → eqb (bitAnd stock (r / 2 ^ 63 * 0x8080808080808080)) 0 ≡ b
-        → cond a 0 (cond b (r % 128) 0) ≡ n → Found-end r c stock n
-    go true b p q i = absurd (omega arith)
-    go false true p q i = record { flagged = eqb-false _ _ p; low = eqb-true _ _ q; place = i }
-    go false false p q i = absurd (omega arith)
-
--- a row is what its byte is as a tag, and 512 or nothing
-record Side (k : ℕ) : Type 0 where
-  whole : k % 512 ≡ 0
-  once : k ≤ 512
-
-side-part : (t : Bool) → Side (cond t 512 0)
-side-part true = record { whole = refl; once = omega arith }
-side-part false = record { whole = refl; once = omega arith }
-
-side-legal : (t : Bool) → (cond t 512 0 / 512 ≡ 0 → ⊥) → t ≡ true
-side-legal true h = refl
-side-legal false h = absurd (h refl)
-
-side-bit : (f : Found) (k : ℕ) → Sized f → Side k → (ends f + k) / 512 % 2 ≡ k / 512
-side-bit (found r) k z d = go (light false (r .body) 13) (light true (r .body) 13)
-  where
-    go : (a b : Bool) → (cond a (256 + (2 + r .size)) (cond b (2 ^ 63 + (2 + r .size)) 0) + k) / 512 % 2 ≡ k / 512
-    go true b = omega arith
-    go false true = omega arith
-    go false false = omega arith
-side-bit none k z d = omega arith
-
-no-end : (k c stock n : ℕ) → Side k → Found-end (0 + k) c stock n → ⊥
-no-end k c stock n d q =
-    let i : (0 + k) / 2 ^ 63 ≡ 0 = omega arith in
-    q .flagged (rw i (omega arith))
-
--- by the row of the tag: a body of numbers, an order, or neither
-by-row : (w : List ℕ) (f : Found) (k c stock n : ℕ) → find Rows.base (getD w 2 0) ≡ f → Sized f → Side k → 52 ≤ length w → Found-end (ends f + k) c stock n
-    → ((c / 512 % 2 ≡ 0 → ⊥) → bitAnd stock 0x8080808080808080 ≡ 0 → Order w) → Front w n
-by-row w none k c stock n e z d h q p = absurd (no-end k c stock n d q)
-by-row w (found r) k c stock n e z d h q p = go (light false (r .body) 13) (light true (r .body) 13) refl refl q
-  where
-    go : (a b : Bool) → light false (r .body) 13 ≡ a → light true (r .body) 13 ≡ b
-        → Found-end (cond a (256 + (2 + r .size)) (cond b (2 ^ 63 + (2 + r .size)) 0) + k) c stock n → Front w n
-    go true b x y q =
-        let i : 2 + r .size ≡ n = omega (arith, q .place) in
-        rw (← i) (accepts w false r e z h (rw x tt) (λ o. absurd o))
-    go false true x y q =
-        let i : 2 + r .size ≡ n = omega (arith, q .place) in
-        let o : (2 ^ 63 + (2 + r .size) + k) / 2 ^ 63 ≡ 1 = omega arith in
-        let j : (2 ^ 63 + (2 + r .size) + k) / 256 ≡ 2 ^ 55 + 2 * (k / 512) = omega arith in
-        let l = rw o at (q .low) in
-        let g = rw (o, j) at (q .flagged) in
-        rw (← i) (accepts w true r e z h (rw y tt) (λ _. p (λ u. g (omega arith)) l))
-    go false false x y q = absurd (no-end k c stock n d q)
-
-based : (t : ℕ) → Sized (find Rows.base t)
-based t = find-sized Rows.base tt t
-
-by-table : (w rows : List ℕ) (n : ℕ) → Bytes w → Table rows → 52 ≤ length w → endBy (getD rows (getD w 2 0) 0) (getD rows (getD w 21 0) 0) (be (part w 26 8)) ≡ n
-    → 0 < n → Front w n
-unfolding rowOf
-by-table w rows n b t l e h =
-    let x : ℕ = getD w 2 0 in
-    let y : ℕ = getD w 21 0 in
-    let f : Found = find Rows.base y in
-    let d = side-part (member y side) in
-    let q = found-end (rowOf x) (rowOf y) (be (part w 26 8)) n (rw (t x (b 2), t y (b 21)) at e) h in
-    by-row w (find Rows.base x) (cond (member x side) 512 0) (rowOf y) (be (part w 26 8)) n refl (based x) (side-part (member x side)) l q
-    (λ g z. record {
-      legal = side-legal (member y side) (λ u. g (side-bit f (cond (member y side) 512 0) (based y) d ∙ u));
-      formed = ascii 8 w 26 b (omega arith) refl z;
-    })
-
--- the theorem, and that the window has the bytes which the test looked at
-pub plain-accepts : (w rows : List ℕ) (n : ℕ) → Bytes w → Table rows → plainOf w rows ≡ n → 0 < n → Front w n × (52 ≤ length w)
+pub tested : (w rows : List ℕ) (n : ℕ) → plainOf w rows ≡ n → 0 < n → Tested w rows n
 unfolding plainOf
-plain-accepts w rows n b t e h = go (leb 52 (length w)) refl e
+tested w rows n e h = go (leb 52 (length w)) refl e
   where
     go : (a : Bool) → leb 52 (length w) ≡ a
-        → cond a (endBy (getD rows (getD w 2 0) 0) (getD rows (getD w 21 0) 0) (be (part w 26 8))) 0 ≡ n → Front w n × (52 ≤ length w)
-    go true l e =
-        let i : 52 ≤ length w = leb-true 52 (length w) l in
-        (by-table w rows n b t i e h, i)
+        → cond a (endBy (getD rows (getD w 2 0) 0) (getD rows (getD w 21 0) 0) (be (part w 26 8))) 0 ≡ n → Tested w rows n
+    go true l e = record {
+      long = leb-true 52 (length w) l;
+      low = omega (arith, found-end (getD rows (getD w 2 0) 0) (getD rows (getD w 21 0) 0) (be (part w 26 8)) n e h .place);
+      end = e;
+    }
     go false l e = absurd (omega arith)
 
+-- what the strict one adds
+record Passed (v r stock : ℕ) : Type 0 where
+  early : v % 2 ^ 48 < day
+  under : bitAnd (bitAnd stock 0x7f7f7f7f7f7f7f7f + 0x0101010101010101) (r / 2 ^ 63 * 0x8080808080808080) ≡ 0
+  over : bitAnd (bitAnd stock 0x7f7f7f7f7f7f7f7f + 0x6060606060606060) (r / 2 ^ 63 * 0x8080808080808080) ≡ r / 2 ^ 63 * 0x8080808080808080
+
+passed : (v r stock : ℕ) → tightBy v r stock ≡ true → Passed v r stock
+passed v r stock t =
+    let high : ℕ = r / 2 ^ 63 * 0x8080808080808080 in
+    let x : Bool = eqb (bitAnd (bitAnd stock 0x7f7f7f7f7f7f7f7f + 0x0101010101010101) high) 0 in
+    let y : Bool = eqb (bitAnd (bitAnd stock 0x7f7f7f7f7f7f7f7f + 0x6060606060606060) high) high in
+    let p = and-split (ltb (v % 2 ^ 48) day) (x && y) t in
+    let q = and-split x y (p .1) in
+    record { early = ltb-true _ _ (p .0); under = eqb-true _ _ (q .0); over = eqb-true _ _ (q .1) }
+
+-- where it gives a place, the ordinary one gives the same
+strictly-both : (w rows : List ℕ) (n : ℕ) → strictlyOf w rows ≡ n → 0 < n
+    → Passed (be (part w 5 8)) (getD rows (getD w 2 0) 0) (be (part w 26 8)) × (plainOf w rows ≡ n)
+unfolding strictlyOf
+strictly-both w rows n e h = go (tightBy (be (part w 5 8)) (getD rows (getD w 2 0) 0) (be (part w 26 8))) refl e
+  where
+    go : (t : Bool) → tightBy (be (part w 5 8)) (getD rows (getD w 2 0) 0) (be (part w 26 8)) ≡ t → cond t (plainOf w rows) 0 ≡ n
+        → Passed (be (part w 5 8)) (getD rows (getD w 2 0) 0) (be (part w 26 8)) × (plainOf w rows ≡ n)
+    go true t e = (passed _ _ _ t, e)
+    go false t e = absurd (omega arith)
+
+pub strictly-plain : (w rows : List ℕ) (n : ℕ) → strictlyOf w rows ≡ n → 0 < n → plainOf w rows ≡ n
+strictly-plain w rows n e h = strictly-both w rows n e h .1
+
+-- ---- the windows
+
+module _ (w : List ℕ) {row n : ℕ} (l : Lit w row n) (long : 52 ≤ length w) where
+  -- the values of the body, and of the message
+  body : (vs : List ℕ) × Reads w (l .at .body) 13 vs
+  body = light-reads (l .order) (l .at .body) w 13 (l .body) (omega (arith, l .end, l .small)) (l .right)
+
+  abbrev values : List ℕ
+  values = getD w 2 0 ∷ be (part w 3 2) ∷ be (part w 5 2) ∷ be (part w 7 6) ∷ getD w 2 0 ∷ body .0
+
+  -- a row that every edition has is that of its tag, whatever the edition
+  body-in : (rd : Reading) → bodyIn rd (getD w 2 0) w ≡ accepted (getD w 2 0 ∷ body .0) n
+  unfolding bodyIn
+  body-in rd =
+      ap (λ x. Rows.under x w 13 (getD w 2 0 ∷ [])) (in-front Rows.base (Rows.later (rd .edition)) (getD w 2 0) (l .is))
+      ∙ reads (body .1) (getD w 2 0 ∷ []) accepted
+      ∙ ap (accepted (getD w 2 0 ∷ body .0)) (l .end)
+
+  ordinarily : (rd : Reading) → window (ordinary rd) w ≡ accepted values n
+  ordinarily rd = window-there rd w (omega arith) ∙ ap (pre _) (body-in rd)
+
+  not-strictly : (rd : Reading) → rd .strict ≡ false → window rd w ≡ accepted values n
+  not-strictly rd f = window-strictly rd w ∙ rw f (ordinarily rd)
+
+  module _ (b : Bytes w) (t : Passed (be (part w 5 8)) row (be (part w 26 8))) where
+    -- the time is below a day
+    in-time : be (part w 7 6) < day
+    in-time =
+        let e : be (part w 5 8) ≡ be (part w 5 2) * 256 ^ 6 + be (part w 7 6) = be-split w 5 2 6 (omega arith) in
+        let h : be (part w 7 6) < 256 ^ 6 = be-below w 7 6 b (omega arith) in
+        let m : be (part w 5 8) % 2 ^ 48 ≡ be (part w 7 6) = omega arith in
+        omega (arith, m, t .early)
+
+    -- and no text strays
+    no-stray : strayOf (getD w 2 0) w (length w) ≡ 0
+    unfolding strayOf
+    no-stray =
+        ap (λ f. strayIn (fieldsIn f) w 13 (length w)) (in-front Rows.base Rows.added (getD w 2 0) (l .is))
+        ∙ unstrayed (l .order) (l .at .body) w 13 (length w) (l .body)
+        (λ o. tidy w 26 b (omega arith) (l .right o .low) (rw (l .marked o) at (t .under)) (rw (l .marked o) at (t .over)))
+
+    by-any : (rd : Reading) → window rd w ≡ accepted values n
+    by-any rd =
+        window-strictly rd w
+        ∙ rw (ordinarily rd, le-ltb (length w) 13 (omega arith), lt-leb day (be (part w 7 6)) in-time, no-stray) (go (rd .strict))
+      where
+        go : (s : Bool) → cond s (accepted values n) (accepted values n) ≡ accepted values n
+        go true = refl
+        go false = refl
+
+-- ---- the theorems
+
+-- a message in front, by a reading, that ends at n
+pub record Front (rd : Reading) (w : List ℕ) (n : ℕ) : Type 0 where
+  pub message : Message
+  pub accepted : windowOf rd w ≡ Accepted message n
+  pub tag : message .tag ≡ getD w 2 0
+
+-- by the values of a plain body
+front : (rd : Reading) (w : List ℕ) {row n : ℕ} (l : Lit w row n) (long : 52 ≤ length w) → window rd w ≡ accepted (values w l long) n → Front rd w n
+unfolding windowOf
+front rd w l long e = record { message = messageFrom (values w l long); accepted = ap windowFrom e; tag = refl }
+
+-- a plain message by a reading's table, which is no strict one's: that is zero
+pub plain-accepts : (rd : Reading) (w rows : List ℕ) (n : ℕ) → Bytes w → Table (rd .strict) rows → plainOf w rows ≡ n → 0 < n → Front rd w n
+plain-accepts rd w rows n b t e h =
+    let p = tested w rows n e h in
+    let l = by-table (rd .strict) w rows n b t (p .long) (p .end) h in
+    front rd w (l .1) (p .long) (not-strictly w (l .1) (p .long) rd (l .0))
+
+-- one that the strict test passes, by every reading
+pub strictly-accepts : (rd : Reading) (w rows : List ℕ) (n : ℕ) → Bytes w → Table false rows → strictlyOf w rows ≡ n → 0 < n → Front rd w n
+strictly-accepts rd w rows n b t e h =
+    let s = strictly-both w rows n e h in
+    let p = tested w rows n (s .1) h in
+    let l = by-table false w rows n b t (p .long) (p .end) h .1 in
+    front rd w l (p .long) (by-any w l (p .long) b (s .0) rd)
+
 -- the rule leaves one table
-pub one-table : (x y : List ℕ) → length x ≡ 256 → length y ≡ 256 → Table x → Table y → x ≡ y
-one-table x y h k p q = ext-getD 0 x y (h ∙ sym k) (λ i l. p i (omega arith) ∙ sym (q i (omega arith)))
+pub one-table : (st : Bool) (x y : List ℕ) → length x ≡ 256 → length y ≡ 256 → Table st x → Table st y → x ≡ y
+one-table st x y h k p q = ext-getD 0 x y (h ∙ sym k) (λ i l. p i (omega arith) ∙ sym (q i (omega arith)))

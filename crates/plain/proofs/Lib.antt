@@ -1,2 +1,4 @@
+mod Numbers
+mod Strays
+pub mod Bodies
 pub mod Accepts
-mod Stock

@@ -1,7 +1,7 @@
-// Reads a recording from standard input, by the edition that the words ask for, writes every message back by the same one and compares: a line for each,
+// Reads a recording from standard input, by the reading that the words ask for, writes every message back by the same one and compares: a line for each,
 // its tag and `same` or `other`; then how many there were, how many were the same, and how many bytes were read of a message that is none: cut short, or
-// refused. There it stops, and says on standard error where in the recording that message begins. Bytes are taken one by one: each strict prefix of a
-// message is incomplete, so the window is always one message. A read or a write that fails ends the program, with a word on standard error.
+// refused. There it stops, and says on standard error where in the recording that message begins. Bytes are taken one by one: each prefix of a message but
+// itself is incomplete, so the window is always one message. A read or a write that fails ends the program, with a word on standard error.
 ghost use mathlib.Core.Path.{_≡_};
 ghost use mathlib.Core.Bool.{true, false};
 ghost use Prim.Native.Nat.{_≤_};
@@ -265,7 +265,7 @@ fn totals(s: State) -> bool {
 pub fn start() {
     let w = words::asked(false);
     if !w.known {
-        words::misuse(w, b"rewrite: its words are later and status\n");
+        words::misuse(w, b"rewrite: its words are later, strict and status\n");
         return;
     }
     let s = read_all(w);

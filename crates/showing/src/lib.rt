@@ -1,7 +1,8 @@
 // What the stream answers, as text: a line for each message with every field under the Rust's names. The two programs over it:
 //
-// `show` reads standard input as a stream, to its first refusal or its end, with the word `later` by the later edition. Behind the messages it prints
-// `messages N`, `consumed N` (the bytes of the messages answered) and `stopped N P` (the refusal's number and place, `0 0` at a clean end).
+// `show` reads standard input as a stream, to its first refusal or its end, with the word `later` by the later edition, with the word `strict` strictly.
+// Behind the messages it prints `messages N`, `consumed N` (the bytes of the messages answered) and `stopped N P` (the refusal's number and place, `0 0`
+// at a clean end).
 //
 // `cases` plays the reads that its standard input lists (crate reads). For each case: a fresh stream and a zeroed buffer; next is tried again and
 // again; where it wants bytes the next read is played, or one that brings nothing where the case has none left. A message prints its line, a refusal
@@ -648,14 +649,15 @@ pub fn show() {
         go(true, w);
         return;
     }
-    words::misuse(w, b"show: its words are later and status\n");
+    words::misuse(w, b"show: its words are later, strict and status\n");
 }
 
-// The program `cases`, which has no words: it reads by the old edition, as the Rust does.
+// The program `cases`, which has no words: it reads by the old edition and not strictly, as the Rust does.
 pub fn cases() {
     let none = Words {
         quiet: false,
         later: false,
+        strict: false,
         status: false,
         known: true,
     };

@@ -3,7 +3,7 @@
 use mathlib.Core.Path.{sym, ap, _∙_}
 use native.Mathlib.Omega.{arith}
 use denote.Ref.{now}
-use Rattle.plain.proofs.Accepts.{plain-accepts}
+use Rattle.plain.proofs.Accepts.{tested}
 use Rattle.lines.specs.Whole.{lookOf}
 use Rattle.lines.proofs.Plainly.{plain-look}
 use borrow.Author.Needs.{needs}
@@ -17,7 +17,7 @@ shared-slice-read-t8 : tie.Need-shared-slice-read-t8
 shared-slice-read-t8 c =
     let p = c .before .before .before .before in
     let e = sym (c .before .before .plain .ensures) ∙ c .before .if1 .taken in
-    omega (arith, plain-accepts (now (p .args .s)) (now (p .args .rows)) (p .args .size) (λ i. c .shared-slice-known2 .given i .fits) (p .pre .1) e (omega (arith, p .pre .0)) .1)
+    omega (arith, tested (now (p .args .s)) (now (p .args .rows)) (p .args .size) e (omega (arith, p .pre .0)) .long)
 
 returns : tie.Need-returns
 returns c =

@@ -60,18 +60,15 @@ slice-aggregate-from-start c = search needs
 from-start-requires : tie.Need-from-start-requires
 unfolding pairs pairsFrom
 from-start-requires c κs =
-    let rows = c .before .before .before .before .before .before in
-    let ready = rows .before .before in
-    let a = c .before .before .before .before .before .before .before .before .before .before .before .before .before .before .args in
-    let r = ready-all (a .w) (length (a .block .now) - a .from) (sym (ready .ready .ensures) ∙ not-false _ (rows .before .if4 .left)) in (
-      omega (arith, ready .before .before .before .if1 .left),
-      omega (arith, ready .before .before .if2 .left),
-      omega (arith, ready .before .if3 .left),
+    let r = ready-all (c .before .before .before .before .before .before .before .before .before .before .before .before .before .before .args .w) (length (c .before .before .before .before .before .before .before .before .before .before .before .before .before .before .args .block .now) - c .before .before .before .before .before .before .before .before .before .before .before .before .before .before .args .from) (sym (c .before .before .before .before .before .before .before .before .ready .ensures) ∙ not-false _ (c .before .before .before .before .before .before .before .if4 .left)) in (
+      omega (arith, c .before .before .before .before .before .before .before .before .before .before .before .if1 .left),
+      omega (arith, c .before .before .before .before .before .before .before .before .before .before .if2 .left),
+      omega (arith, c .before .before .before .before .before .before .before .before .before .if3 .left),
       omega (arith, r .room),
       r .two,
       r .counted,
       refl,
-      rows .rows .ensures,
+      c .before .before .before .before .before .rows .ensures,
     )
 
 same-length : tie.Need-same-length
@@ -79,12 +76,9 @@ same-length c = search needs
 
 returns-5 : tie.Need-returns-5
 returns-5 c =
-    let rows = c .before .before .before .before .before .before .before .before .before in
-    let ready = rows .before .before in
-    let a = c .before .before .before .before .before .before .before .before .before .before .before .before .before .before .before .before .before .args in
     let l = held-long (c .before .before .before .before .before .before .before .before .before .before .before .before .before .before .before) in
     rw
-    (start-of (a .w) (length (a .block .now) - a .from) l (sym (ready .ready .ensures) ∙ not-false _ (rows .before .if4 .left)) (c .before .before .before .before .before .before .before .if5 .taken))
+    (start-of (c .before .before .before .before .before .before .before .before .before .before .before .before .before .before .before .before .before .args .w) (length (c .before .before .before .before .before .before .before .before .before .before .before .before .before .before .before .before .before .args .block .now) - c .before .before .before .before .before .before .before .before .before .before .before .before .before .before .before .before .before .args .from) l (sym (c .before .before .before .before .before .before .before .before .before .before .before .ready .ensures) ∙ not-false _ (c .before .before .before .before .before .before .before .before .before .before .if4 .left)) (c .before .before .before .before .before .before .if5 .taken))
     at (c .before .before .from-start .ensures)
 
 slice-aggregate-from-inside : tie.Need-slice-aggregate-from-inside
@@ -92,15 +86,13 @@ slice-aggregate-from-inside c = search needs
 
 from-inside-requires : tie.Need-from-inside-requires
 unfolding pairs pairsFrom
-from-inside-requires c κs =
-    let rows = c .before .before .before .before .before in
-    let ready = rows .before .before in (
-      ready .before .before .before .if1 .left,
-      omega (arith, ready .before .before .if2 .left, ready .before .if3 .left),
-      sym (ready .ready .ensures) ∙ not-false _ (rows .before .if4 .left),
-      refl,
-      rows .rows .ensures,
-    )
+from-inside-requires c κs = (
+  c .before .before .before .before .before .before .before .before .before .before .before .if1 .left,
+  omega (arith, c .before .before .before .before .before .before .before .before .before .before .if2 .left, c .before .before .before .before .before .before .before .before .before .if3 .left),
+  sym (c .before .before .before .before .before .before .before .before .ready .ensures) ∙ not-false _ (c .before .before .before .before .before .before .before .if4 .left),
+  refl,
+  c .before .before .before .before .before .rows .ensures,
+)
 
 same-length-2 : tie.Need-same-length-2
 same-length-2 c = search needs

@@ -1,8 +1,9 @@
 -- `plain::plain` meets its contract.
 -- Assumes nothing.
+use native.Mathlib.Omega.{arith}
 use borrow.Author.Tests.{lt-leb, le-leb}
 use Rattle.plain.specs.Plain.{plainOf}
-use Rattle.plain.proofs.Stock.{stock-there, stock-is}
+use Rattle.plain.proofs.Numbers.{number-there, number-is}
 use borrow.Author.Needs.{needs}
 use Rattle.plain.proofs.plain.Statement.{statement}
 use Rattle.plain.proofs.plain.Tie as tie
@@ -21,7 +22,7 @@ enum-told : tie.Need-enum-told
 enum-told c = search needs
 
 returns-2 : tie.Need-returns-2
-returns-2 c = absurd (stock-there _ _ (c .before .before .before .if1 .left) (c .before .before .be-u64 .ensures) (c .enum-told .given .1))
+returns-2 c = absurd (number-there _ 26 _ (omega (arith, c .before .before .before .if1 .left)) (c .before .before .be-u64 .ensures) (c .enum-told .given .1))
 
 shared-slice-read-row : tie.Need-shared-slice-read-row
 shared-slice-read-row c = search needs
@@ -41,7 +42,7 @@ end-by-requires c κs = search needs
 returns-3 : tie.Need-returns-3
 unfolding plainOf
 returns-3 c =
-    let s = stock-is _ (c .before .before .before .before .before .before .before .before .before .if1 .left) (c .before .before .before .before .before .before .before .before .be-u64 .ensures) (c .before .before .before .before .before .before .f .given .1) in
+    let s = number-is _ 26 (omega (arith, c .before .before .before .before .before .before .before .before .before .if1 .left)) (c .before .before .before .before .before .before .before .before .be-u64 .ensures) (c .before .before .before .before .before .before .f .given .1) in
     rw (le-leb _ _ (c .before .before .before .before .before .before .before .before .before .if1 .left)) (rw (c .before .before .before .row .ensures, c .before .row2 .ensures, s) at (c .end-by .ensures))
 
 pub plain-spec : {M : Type 1} → statement M

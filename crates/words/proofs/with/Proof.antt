@@ -28,6 +28,12 @@ once-requires-3 c κs = search needs
 enum-told-4 : tie.Need-enum-told-4
 enum-told-4 c = search needs
 
+once-requires-4 : tie.Need-once-requires-4
+once-requires-4 c κs = search needs
+
+enum-told-5 : tie.Need-enum-told-5
+enum-told-5 c = search needs
+
 unknown-requires-2 : tie.Need-unknown-requires-2
 unknown-requires-2 c κs = search needs
 
@@ -44,7 +50,10 @@ returns-4 : tie.Need-returns-4
 returns-4 c = rw (c .before .enum-told3 .given .1, c .once3 .ensures)
 
 returns-5 : tie.Need-returns-5
-returns-5 c = rw (c .before .enum-told4 .given .1) (c .unknown2 .ensures)
+returns-5 c = rw (c .before .enum-told4 .given .1, c .once4 .ensures)
+
+returns-6 : tie.Need-returns-6
+returns-6 c = rw (c .before .enum-told5 .given .1) (c .unknown2 .ensures)
 
 pub with-spec : {M : Type 1} → statement M
 with-spec =
@@ -58,9 +67,12 @@ with-spec =
     enum-told-3
     once-requires-3
     enum-told-4
+    once-requires-4
+    enum-told-5
     unknown-requires-2
     returns
     returns-2
     returns-3
     returns-4
-    returns-5)
+    returns-5
+    returns-6)

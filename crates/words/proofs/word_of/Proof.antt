@@ -32,8 +32,17 @@ is-requires-3 c κs = search needs
 returns-3 : tie.Need-returns-3
 returns-3 c = simp (sym (c .before .before .before .before .before .before .before .is .ensures), c .before .before .before .before .before .before .if1 .left, sym (c .before .before .before .before .is2 .ensures), c .before .before .before .if2 .left, sym (c .before .is3 .ensures), c .if3 .taken)
 
+slice-aggregate-is-4 : tie.Need-slice-aggregate-is-4
+slice-aggregate-is-4 c = search needs
+
+is-requires-4 : tie.Need-is-requires-4
+is-requires-4 c κs = search needs
+
 returns-4 : tie.Need-returns-4
-returns-4 c = simp (sym (c .before .before .before .before .before .before .before .is .ensures), c .before .before .before .before .before .before .if1 .left, sym (c .before .before .before .before .is2 .ensures), c .before .before .before .if2 .left, sym (c .before .is3 .ensures), c .if3 .left)
+returns-4 c = simp (sym (c .before .before .before .before .before .before .before .before .before .before .is .ensures), c .before .before .before .before .before .before .before .before .before .if1 .left, sym (c .before .before .before .before .before .before .before .is2 .ensures), c .before .before .before .before .before .before .if2 .left, sym (c .before .before .before .before .is3 .ensures), c .before .before .before .if3 .left, sym (c .before .is4 .ensures), c .if4 .taken)
+
+returns-5 : tie.Need-returns-5
+returns-5 c = simp (sym (c .before .before .before .before .before .before .before .before .before .before .is .ensures), c .before .before .before .before .before .before .before .before .before .if1 .left, sym (c .before .before .before .before .before .before .before .is2 .ensures), c .before .before .before .before .before .before .if2 .left, sym (c .before .before .before .before .is3 .ensures), c .before .before .before .if3 .left, sym (c .before .is4 .ensures), c .if4 .left)
 
 pub word-of-spec : {M : Type 1} → statement M
 word-of-spec =
@@ -48,4 +57,7 @@ word-of-spec =
     slice-aggregate-is-3
     is-requires-3
     returns-3
-    returns-4)
+    slice-aggregate-is-4
+    is-requires-4
+    returns-4
+    returns-5)
