@@ -8,7 +8,7 @@ use Prim.Native.Nat.{ℕ, _+_, _*_, _/_, _%_, _^_, _<_, _≤_}
 use native.Mathlib.Omega.{arith}
 use lib.Dec.{T, leb}
 use lib.ListN.{length, getD, drop}
-use Rattle.format.specs.Layout.{Kind, num, time, text, code, subtype, width, widths, be, day, part, got, fine, wrong, placed, judgeBy, field, step, Answer, accepted, incomplete, refuses, readBy}
+use Rattle.format.specs.Layout.{Kind, num, time, text, code, subtype, widths, be, day, part, got, fine, wrong, placed, judgeBy, field, step, Answer, accepted, incomplete, refuses, readBy}
 use Rattle.format.specs.Rows.{header, headerOf}
 use Rattle.format.proofs.Tests.{le-or-lt}
 use Rattle.format.proofs.Bytes.{Bytes, be-one, be-split, be-below}

@@ -14,8 +14,8 @@ use lib.ListN.{length, getD, drop, length-drop}
 use lib.Seq.{length-take-le}
 use Rattle.format.specs.Codes.{subtypes}
 use Rattle.format.specs.Utf8.{wellFormed, firstBad}
-use Rattle.format.specs.Layout.{Kind, num, time, text, code, subtype, width, be, day, strays, firstStray, part, member, Verdict, fine, wrong, judge, judgeBy, placed, Answer, accepted, incomplete, refuses, step, read, readBy}
-use Rattle.format.specs.Rows.{Row, rows, rowsIn, Found, found, none, find, fieldsIn, under, underBy, header, message, window}
+use Rattle.format.specs.Layout.{Kind, num, time, text, code, subtype, width, be, day, strays, firstStray, part, Verdict, fine, wrong, judge, judgeBy, placed, Answer, accepted, incomplete, refuses, step, read, readBy}
+use Rattle.format.specs.Rows.{Row, rows, rowsIn, Found, found, none, find, fieldsIn, under, underBy, header, window}
 use Rattle.format.specs.Strict.{ordinary, strayed, strayIn, strayOf, limitOf, settle, stricter}
 use Rattle.format.specs.declared.Reading.{Reading}
 use Rattle.format.proofs.Tests.{both, le-or-lt}

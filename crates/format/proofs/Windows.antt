@@ -12,9 +12,6 @@ use Rattle.format.specs.Layout.{Kind, width, be, day, part, Got, got, sh
 use Rattle.format.specs.Rows.{rowsIn, Found, found, none, find, under, message, headerOf, bodyIn, window}
 use Rattle.format.specs.Strict.{ordinary, strayOf, limitOf, settle}
 use Rattle.format.specs.declared.Reading.{Reading}
-use Rattle.format.specs.Meaning.{stopM}
-use Rattle.format.specs.declared.Fault.{Fault}
-use Rattle.format.specs.declared.Fault.the-variants.{Short, Refused}
 use Rattle.format.proofs.Tests.{le-or-lt}
 use Rattle.format.proofs.Runs.{reads}
 use Rattle.format.proofs.Heads.{header-cut, header-reads, header-short}
@@ -111,8 +108,3 @@ window-settled rd s {t} {l} {n} {ts} e f d =
     let h = headed s e in
     window-strictly rd s
     ∙ rw (f, le-ltb (length s) 13 (h .long), lt-leb day (be (part s 7 6)) (omega (arith, h .stamp)), ordinary-body rd s h, ← h .tag, pre-limit (t ∷ l ∷ n ∷ ts ∷ []) s (bodyIn rd t s))
-
--- an answer that stops stays what it is
-pub pre-stop : (acc : List ℕ) (e : Fault) → pre acc (stopM e) ≡ stopM e
-pre-stop acc Short = refl
-pre-stop acc (Refused n p) = refl

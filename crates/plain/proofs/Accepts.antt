@@ -75,8 +75,8 @@ strictly-both w rows n e h = go (tightBy (be (part w 5 8)) (getD rows (getD w 2 
     go true t e = (passed _ _ _ t, e)
     go false t e = absurd (omega arith)
 
-pub strictly-plain : (w rows : List ℕ) (n : ℕ) → strictlyOf w rows ≡ n → 0 < n → plainOf w rows ≡ n
-strictly-plain w rows n e h = strictly-both w rows n e h .1
+pub strictly-tested : (w rows : List ℕ) (n : ℕ) → strictlyOf w rows ≡ n → 0 < n → Tested w rows n
+strictly-tested w rows n e h = tested w rows n (strictly-both w rows n e h .1) h
 
 -- ---- the windows
 
@@ -151,10 +151,9 @@ plain-accepts rd w rows n b t e h =
 -- one that the strict test passes, by every reading
 pub strictly-accepts : (rd : Reading) (w rows : List ℕ) (n : ℕ) → Bytes w → Table false rows → strictlyOf w rows ≡ n → 0 < n → Front rd w n
 strictly-accepts rd w rows n b t e h =
-    let s = strictly-both w rows n e h in
-    let p = tested w rows n (s .1) h in
+    let p = strictly-tested w rows n e h in
     let l = by-table false w rows n b t (p .long) (p .end) h .1 in
-    front rd w l (p .long) (by-any w l (p .long) b (s .0) rd)
+    front rd w l (p .long) (by-any w l (p .long) b (strictly-both w rows n e h .0) rd)
 
 -- the rule leaves one table
 pub one-table : (st : Bool) (x y : List ℕ) → length x ≡ 256 → length y ≡ 256 → Table st x → Table st y → x ≡ y

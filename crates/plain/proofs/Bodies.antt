@@ -182,10 +182,12 @@ by-table false w rows n b t l e h =
     let y : ℕ = getD w 21 0 in
     let f : Found = find Rows.base y in
     let d = side-part (member y side) in
-    let q = found-end (rowOf x) (rowOf y) (be (part w 26 8)) n (rw (t x (b 2), t y (b 21)) at e) h in
-    (refl, rw (t x (b 2)) (by-row w (find Rows.base x) (cond (member x side) 512 0) (rowOf y) (be (part w 26 8)) n refl (based x) (side-part (member x side)) q
-    (λ g z. record {
-      legal = side-legal (member y side) (λ u. g (side-bit f (cond (member y side) 512 0) (based y) d ∙ u));
-      formed = ascii 8 w 26 b (omega arith) refl z;
-      low = z;
-    })))
+    let q = found-end (rowOf x) (rowOf y) (be (part w 26 8)) n (rw (t x (b 2), t y (b 21)) at e) h in (
+      refl,
+      rw (t x (b 2)) (by-row w (find Rows.base x) (cond (member x side) 512 0) (rowOf y) (be (part w 26 8)) n refl (based x) (side-part (member x side)) q
+          (λ g z. record {
+            legal = side-legal (member y side) (λ u. g (side-bit f (cond (member y side) 512 0) (based y) d ∙ u));
+            formed = ascii 8 w 26 b (omega arith) refl z;
+            low = z;
+          })),
+    )

@@ -90,7 +90,8 @@ fn late(strict: bool, timestamp: u64) -> bool
     false
 }
 
-// Reads one window by a reading: its message and the bytes consumed, incomplete, or the first bad field's number and place.
+// Reads one window by a reading: its message and the bytes consumed, incomplete, or the first bad field's number and place. A strict reading asks behind each
+// answer of the body whether a text strays: `stray` is so compiled by itself, and the ordinary reading pays for one test.
 pub fn parse_message(s: &[u8], reading: Reading) -> Window
     ensures { λ r. ⌜ windowM r ≡ window reading (now (s .entry)) ⌝ }
 {

@@ -33,11 +33,11 @@ below-sum (x ∷ c) (suc k) = let e = below-sum c k in omega arith
 pub counter-below : {c : List ℕ} {n : ℕ} (k : ℕ) → Counters c n → getD c k 0 ≤ n
 counter-below {c} k p = omega (arith, below-sum c k, p .total)
 
--- a message raises its counter, and so the count
-raises : (c : List ℕ) (m : Record) (n : ℕ) → Counters c n → m .tag < 256 → Counters (raised c m) (n + 1)
-raises c m n k h = record {
-  all = length-set c (m .tag) (getD c (m .tag) 0 + 1) ∙ k .all;
-  total = sum-raised c (m .tag) (omega (arith, k .all)) ∙ ap (λ (x : ℕ). x + 1) (k .total);
+-- a counter raised raises the count
+pub raises : (c : List ℕ) (k n : ℕ) → Counters c n → k < 256 → Counters (set c k (getD c k 0 + 1)) (n + 1)
+raises c k n p h = record {
+  all = length-set c k (getD c k 0 + 1) ∙ p .all;
+  total = sum-raised c k (omega (arith, p .all)) ∙ ap (λ (x : ℕ). x + 1) (p .total);
 }
 
 -- a message raises the count
@@ -47,13 +47,15 @@ rises rd b s r m e a =
     ∙ next-message rd s b m (ap (λ (x : Step). x .answer) (sym e) ∙ a) .messages
 
 -- the state and the counters behind it
+pub taken-one : {rd : Reading} {b : List ℕ} {s₀ : Stream} {c₀ : List ℕ} {s : Stream} {c : List ℕ} {r : Step} {m : Record} → Taken rd b s₀ c₀ s c
+    → r ≡ nextOf rd s b → r .answer ≡ Message m → Taken rd b s₀ c₀ (r .state) (raised c m)
+taken-one {rd} {b} {s₀} {c₀} {s} {c} {r} {m} p e a =
+    subst (λ (x : Step). Taken rd b s₀ c₀ (x .state) (raised c m)) (sym e) (more p m (ap (λ (x : Step). x .answer) (sym e) ∙ a))
+
 pub again : {rd : Reading} {b : List ℕ} {s₀ : Stream} {c₀ : List ℕ} {s : Stream} {c : List ℕ} {r : Step} {m : Record} → Counted rd b s₀ c₀ s c → r ≡ nextOf rd s b
     → r .answer ≡ Message m → m .tag < 256 → Counted rd b s₀ c₀ (r .state) (raised c m)
 again {rd} {b} {s₀} {c₀} {s} {c} {r} {m} p e a h =
-    record {
-      taken = subst (λ (x : Step). Taken rd b s₀ c₀ (x .state) (raised c m)) (sym e) (more (p .taken) m (ap (λ (x : Step). x .answer) (sym e) ∙ a));
-      counted = rw (rises rd b s r m e a) (raises c m (s .messages) (p .counted) h);
-    }
+    record { taken = taken-one (p .taken) e a; counted = rw (rises rd b s r m e a) (raises c (m .tag) (s .messages) (p .counted) h) }
 
 -- an answer that is no message leaves the count
 pub counts : (rd : Reading) (b : List ℕ) (s : Stream) (c : List ℕ) (r : Step) → Counters c (s .messages) → r ≡ nextOf rd s b

@@ -27,7 +27,7 @@ countsOf c (m ∷ ms) = countsOf (raised c m) ms
 -- How a run ends, by the bytes that all its reads brought, one behind the other, by its messages, by its answer and by what its last read brought.
 pub data Ends (rd : Reading) (came : List ℕ) (ms : List Record) : Answer → Brought → Type 0 where
   -- with a refusal of a message
-  judged : {n p : ℕ} {b : Brought} → 1 ≤ n → n ≤ 3 → heardOf rd came ≡ record { messages = ms; stop = Refused n p } → Ends rd came ms (Refused n p) b
+  judged : {n p : ℕ} {b : Brought} → 1 ≤ n → n ≤ 5 → heardOf rd came ≡ record { messages = ms; stop = Refused n p } → Ends rd came ms (Refused n p) b
   -- with the input's end, that is a read that brought nothing
   ended : {a : Answer} {b : Brought} → Silent b → b .failed ≡ false → heardOf rd came ≡ record { messages = ms; stop = a }
       → Ends rd came ms a b

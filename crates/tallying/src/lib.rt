@@ -1,6 +1,7 @@
 // The run of the stream over standard input, to its first refusal or its end, with a counter for each tag value. It stands in a library, so that
 // `tally` and the three programs that only test it on other inputs are the same code.
 ghost use mathlib.Core.Path.{_≡_};
+ghost use mathlib.Core.Bool.{false};
 ghost use Prim.Native.Nat.{_+_, _≤_};
 ghost use lib.ListN.{length};
 ghost use Rattle.text.specs.Decimal.{Wrote};
@@ -9,7 +10,7 @@ ghost use Rattle.stream.specs.Meaning.{numberOf};
 ghost use Rattle.tally_lines.specs.Lines.{tallyOf};
 ghost use Rattle.plain.specs.Plain.{Table};
 ghost use Rattle.tallying.specs.Answers.{isMessage, isWants, counterOf};
-ghost use Rattle.tallying.specs.Counts.{Counters, Skimmed, Drained};
+ghost use Rattle.tallying.specs.Counts.{Counters, onTo, Skimmed, Tightly, Drained};
 ghost use Rattle.tallying.specs.Reads.{Tallied, Finished};
 
 mod printed;
@@ -23,11 +24,11 @@ use stream::Stream;
 use words::Ending;
 use words::Words;
 
-// Takes and counts the plain messages in front, which every reading takes, with no jump by tag or side: such jumps are most of the time that `next_of`
-// takes.
+// Takes and counts the plain messages in front, by a reading's table, with no jump by tag or side: such jumps are most of the time that `next_of` takes.
+// By a strict reading's table there are none.
 fn skim(s0: Stream, b: &[u8], rows: &[u64; 256], count: &mut [u64]) -> Stream
-    requires { ⌜ Counters (now count) (s0 .messages) × (length (now b) ≡ 8192) × Table (now rows) ⌝ }
-    ensures { λ r. ⌜ Skimmed (now (b .entry)) s0 (now (count .entry)) r (now (count .exit)) ⌝ }
+    requires { ⌜ Counters (now count) (s0 .messages) × (length (now b) ≡ 8192) ⌝ }
+    ensures { λ r. ⌜ Skimmed (now (rows .entry)) (now (b .entry)) s0 (now (count .entry)) r (now (count .exit)) ⌝ }
 {
     let mut s = s0;
     loop {
@@ -60,6 +61,68 @@ fn skim(s0: Stream, b: &[u8], rows: &[u64; 256], count: &mut [u64]) -> Stream
             messages: messages + 1,
             error: false,
         };
+    }
+}
+
+// Where the window begins, and how many messages were taken, behind those that a skim took.
+struct Front {
+    start: usize,
+    messages: u64,
+}
+
+// The same for a strict reading, by the ordinary table: the messages that a strict reading takes, too. It is called from two places, so that it is
+// compiled by itself, and by numbers alone, so that they stay in registers: in `skim` the two tests more would slow the ordinary reading.
+fn skim_strictly(
+    b: &[u8],
+    rows: &[u64; 256],
+    count: &mut [u64],
+    start0: usize,
+    end: usize,
+    messages0: u64,
+) -> Front
+    requires { ⌜ Counters (now count) messages0 × (length (now b) ≡ 8192) × Table false (now rows) ⌝ }
+    ensures { λ r. ⌜ Tightly (now (b .entry)) start0 end messages0 (now (count .entry)) (r .start) (r .messages) (now (count .exit)) ⌝ }
+{
+    let mut start = start0;
+    let mut messages = messages0;
+    loop {
+        if start > end {
+            return Front { start, messages };
+        }
+        if end > 8192 {
+            return Front { start, messages };
+        }
+        let w = &b[start..end];
+        let n = plain::strictly(w, rows);
+        if n == 0 {
+            return Front { start, messages };
+        }
+        if messages >= 18446744073709551615 {
+            return Front { start, messages };
+        }
+        let k = w[2] as usize;
+        count[k] = count[k] + 1;
+        start = start + n;
+        messages = messages + 1;
+    }
+}
+
+// The state behind the messages that a skim took: the first of them clears the mark.
+fn on(s: Stream, f: Front) -> Stream
+    ensures { λ r. ⌜ r ≡ onTo s (f .start) (f .messages) ⌝ }
+{
+    let error = if f.messages == s.messages {
+        s.error
+    } else {
+        false
+    };
+    Stream {
+        start: f.start,
+        end: s.end,
+        bytes_read: s.bytes_read,
+        read_calls: s.read_calls,
+        messages: f.messages,
+        error,
     }
 }
 
@@ -105,13 +168,25 @@ fn counter(s: Step) -> u8
     }
 }
 
-// Takes and counts the window's messages, the plain ones by `skim`, to the first answer that is none. The loop has this one way out, so that it
-// stays small.
-fn drain(s0: Stream, b: &[u8], rows: &[u64; 256], count: &mut [u64], reading: Reading) -> Step
-    requires { ⌜ Counters (now count) (s0 .messages) × (length (now b) ≡ 8192) × Table (now rows) ⌝ }
+// Takes and counts the window's messages, the plain ones by a skim, to the first answer that is none. It is lent the reading's table and the ordinary one.
+// The loop has this one way out, so that it stays small.
+fn drain(
+    s0: Stream,
+    b: &[u8],
+    rows: &[u64; 256],
+    tight: &[u64; 256],
+    count: &mut [u64],
+    reading: Reading,
+) -> Step
+    requires { ⌜ Counters (now count) (s0 .messages) × (length (now b) ≡ 8192) × Table (reading .strict) (now rows) × Table false (now tight) ⌝ }
     ensures { λ r. ⌜ Drained reading (now (b .entry)) s0 (now (count .entry)) r (now (count .exit)) ⌝ }
 {
     let mut s = s0;
+    let strict = reading.strict;
+    if strict {
+        let f = skim_strictly(b, tight, count, s.start, s.end, s.messages);
+        s = on(s, f);
+    }
     loop {
         let t = skim(s, b, rows, count);
         let step = stream::next_of(t, b, reading);
@@ -121,6 +196,10 @@ fn drain(s0: Stream, b: &[u8], rows: &[u64; 256], count: &mut [u64], reading: Re
         let k = counter(step) as usize;
         count[k] = count[k] + 1;
         s = step.state;
+        if strict {
+            let f = skim_strictly(b, tight, count, s.start, s.end, s.messages);
+            s = on(s, f);
+        }
     }
 }
 
@@ -130,11 +209,12 @@ fn run(count: &mut [u64], reading: Reading) -> Turn
     ensures { λ r. ⌜ Tallied reading (now (count .entry)) r (now (count .exit)) ⌝ }
 {
     let mut buf = [0u8; 8192];
-    let rows = plain::rows();
+    let rows = plain::rows(reading.strict);
+    let tight = plain::rows(false);
     let mut s = stream::fresh();
     let mut b = standard::unread();
     loop {
-        let step = drain(s, &buf, &rows, count, reading);
+        let step = drain(s, &buf, &rows, &tight, count, reading);
         if !wants(step) {
             return Turn { step, brought: b };
         }
@@ -192,5 +272,5 @@ pub fn start() {
         print_tally(w);
         return;
     }
-    words::misuse(w, b"tally: its words are later and status\n");
+    words::misuse(w, b"tally: its words are later, strict and status\n");
 }

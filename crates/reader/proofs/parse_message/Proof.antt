@@ -2,7 +2,6 @@
 -- Assumes nothing.
 use mathlib.Core.Path.{refl, sym, ap, _∙_}
 use native.Mathlib.Omega.{arith}
-use borrow.Author.Tests.{not-true}
 use Rattle.records.specs.declared.BodyRead.the-variants.{No}
 use Rattle.reader.proofs.Parts.{no-header, was-read, ordinary, too-late, strayed, unstrayed}
 use borrow.Author.Needs.{needs}

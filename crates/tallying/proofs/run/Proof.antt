@@ -15,13 +15,16 @@ use Rattle.tallying.proofs.run.Statement.{statement}
 use Rattle.tallying.proofs.run.Tie as tie
 
 abbrev Inv-loop : tie.InvT-loop
-Inv-loop count₀ reading buf₀ rows s₀ b₀ count buf s b = Counters count (s .messages) × (length buf ≡ 8192) × Going reading count₀ s b buf count
+Inv-loop count₀ reading buf₀ rows tight s₀ b₀ count buf s b = Counters count (s .messages) × (length buf ≡ 8192) × Going reading count₀ s b buf count
 
 abbrev μ-loop : tie.MeasureT-loop
-μ-loop count₀ reading buf₀ rows s₀ b₀ count buf s b = 18446744073709551616 - s .«read_calls»
+μ-loop count₀ reading buf₀ rows tight s₀ b₀ count buf s b = 18446744073709551616 - s .«read_calls»
 
 rows-requires : tie.Need-rows-requires Inv-loop μ-loop
 rows-requires c κs = search needs
+
+rows-requires-2 : tie.Need-rows-requires-2 Inv-loop μ-loop
+rows-requires-2 c κs = search needs
 
 fresh-requires : tie.Need-fresh-requires Inv-loop μ-loop
 fresh-requires c κs = search needs
@@ -30,22 +33,22 @@ unread-requires : tie.Need-unread-requires Inv-loop μ-loop
 unread-requires c κs = search needs
 
 loop-holds : tie.Need-loop-holds Inv-loop μ-loop
-loop-holds c = rw (c .before .fresh .ensures) (c .before .before .before .before .pre, search needs, going-start _ _ _ _ (c .unread .ensures .1) (search needs))
+loop-holds c = rw (c .before .fresh .ensures) (c .before .before .before .before .before .pre, search needs, going-start _ _ _ _ (c .unread .ensures .1) (search needs))
 
 slice-aggregate-drain : tie.Need-slice-aggregate-drain Inv-loop μ-loop
 slice-aggregate-drain c = search needs
 
 drain-requires : tie.Need-drain-requires Inv-loop μ-loop
-drain-requires c κs = (c .before .before .before .loop .inv .0, c .before .before .before .loop .inv .1, c .before .before .before .before .before .before .rows .ensures)
+drain-requires c κs = (c .before .before .before .before .loop .inv .0, c .before .before .before .before .loop .inv .1, c .before .before .before .before .before .before .before .before .rows .ensures, c .before .before .before .before .before .before .before .rows2 .ensures)
 
 wants-requires : tie.Need-wants-requires Inv-loop μ-loop
 wants-requires c κs = search needs
 
 same-length : tie.Need-same-length Inv-loop μ-loop
-same-length c = c .before .before .before .before .drain .ensures .counted .all ∙ sym (c .before .before .before .before .before .before .before .before .before .before .before .before .before .pre .all)
+same-length c = c .before .before .before .before .drain .ensures .counted .all ∙ sym (c .before .before .before .before .before .before .before .before .before .before .before .before .before .before .before .pre .all)
 
 returns : tie.Need-returns Inv-loop μ-loop
-returns c = tallied-next (c .before .before .before .before .before .before .before .before .loop .inv .2) (c .before .before .before .before .drain .ensures) (wants-not _ (sym (c .before .wants .ensures) ∙ not-true _ (c .if1 .taken)))
+returns c = tallied-next (c .before .before .before .before .before .before .before .before .before .loop .inv .2) (c .before .before .before .before .drain .ensures) (wants-not _ (sym (c .before .wants .ensures) ∙ not-true _ (c .if1 .taken)))
 
 slice-aggregate-feed : tie.Need-slice-aggregate-feed Inv-loop μ-loop
 slice-aggregate-feed c = search needs
@@ -57,11 +60,11 @@ ready-requires : tie.Need-ready-requires Inv-loop μ-loop
 ready-requires c κs = search needs
 
 same-length-2 : tie.Need-same-length-2 Inv-loop μ-loop
-same-length-2 c = c .before .before .before .before .before .before .before .before .before .drain .ensures .counted .all ∙ sym (c .before .before .before .before .before .before .before .before .before .before .before .before .before .before .before .before .before .before .pre .all)
+same-length-2 c = c .before .before .before .before .before .before .before .before .before .drain .ensures .counted .all ∙ sym (c .before .before .before .before .before .before .before .before .before .before .before .before .before .before .before .before .before .before .before .before .pre .all)
 
 returns-2 : tie.Need-returns-2 Inv-loop μ-loop
 returns-2 c =
-    tallied-read (c .before .before .before .before .before .before .before .before .before .before .before .before .before .loop .inv .2) (c .before .before .before .before .before .before .before .before .before .drain .ensures) (wants-is _ (sym (c .before .before .before .before .before .before .wants .ensures) ∙ not-false _ (c .before .before .before .before .before .if1 .left))) _ _ (c .before .before .before .feed .ensures)
+    tallied-read (c .before .before .before .before .before .before .before .before .before .before .before .before .before .before .loop .inv .2) (c .before .before .before .before .before .before .before .before .before .drain .ensures) (wants-is _ (sym (c .before .before .before .before .before .before .wants .ensures) ∙ not-false _ (c .before .before .before .before .before .if1 .left))) _ _ (c .before .before .before .feed .ensures)
     (ready-not _ (sym (c .before .ready .ensures) ∙ not-true _ (c .if2 .taken)))
 
 loop-less : tie.Need-loop-less Inv-loop μ-loop
@@ -71,8 +74,8 @@ loop-less c =
 loop-again : tie.Need-loop-again Inv-loop μ-loop
 loop-again c = (
   counters-on (c .before .before .before .before .before .before .before .before .before .before .before .drain .ensures .counted) (turned _ _ _ _ _ (c .before .before .before .before .before .feed .ensures) .messages),
-  c .before .before .before .before .before .feed .kept .1 .1 .0 ∙ c .before .before .before .before .before .before .before .before .before .before .before .before .before .before .before .loop .inv .1,
-  going-on (c .before .before .before .before .before .before .before .before .before .before .before .before .before .before .before .loop .inv .2) (c .before .before .before .before .before .before .before .before .before .before .before .drain .ensures) (wants-is _ (sym (c .before .before .before .before .before .before .before .before .wants .ensures) ∙ not-false _ (c .before .before .before .before .before .before .before .if1 .left))) _ _ (c .before .before .before .before .before .feed .ensures)
+  c .before .before .before .before .before .feed .kept .1 .1 .0 ∙ c .before .before .before .before .before .before .before .before .before .before .before .before .before .before .before .before .loop .inv .1,
+  going-on (c .before .before .before .before .before .before .before .before .before .before .before .before .before .before .before .before .loop .inv .2) (c .before .before .before .before .before .before .before .before .before .before .before .drain .ensures) (wants-is _ (sym (c .before .before .before .before .before .before .before .before .wants .ensures) ∙ not-false _ (c .before .before .before .before .before .before .before .if1 .left))) _ _ (c .before .before .before .before .before .feed .ensures)
       (ready-is _ (sym (c .before .before .before .ready .ensures) ∙ not-false _ (c .before .before .if2 .left))),
 )
 
@@ -83,6 +86,7 @@ run-spec =
     Inv-loop
     μ-loop
     rows-requires
+    rows-requires-2
     fresh-requires
     unread-requires
     loop-holds
