@@ -13,7 +13,7 @@ use lib.Seq.{ext-getD}
 use Rattle.format.specs.Layout.{be, part, day, accepted}
 use Rattle.format.specs.Rows.{fieldsIn, bodyIn, window}
 use Rattle.format.specs.Rows as Rows
-use Rattle.format.specs.Strict.{ordinary, strayIn, strayOf, stricter}
+use Rattle.format.specs.Strict.{ordinary, strayIn, strayOf}
 use Rattle.format.specs.declared.Reading.{Reading}
 use Rattle.format.proofs.Bytes.{Bytes, be-split, be-below}
 use Rattle.format.proofs.Editions.{in-front}

@@ -1,4 +1,4 @@
 mod Numbers
 mod Strays
-pub mod Bodies
+mod Bodies
 pub mod Accepts

@@ -50,7 +50,8 @@ behind s n = record {
 accepted-next : (rd : Reading) (s : Stream) (b : List ℕ) (m : Record) (n : ℕ) → Ready b (s .start) (s .end) (s .messages)
     → windowOf rd (windowAt s b) ≡ Accepted m n → nextOf rd s b ≡ taken s m n
 unfolding nextOf
-accepted-next rd s b m n h e = simp (eq-eqb _ _ (h .whole), le-leb _ _ (h .ordered), le-leb _ _ (h .inside), e, ne-eqb (s .messages) 18446744073709551615 (λ i. omega (arith, h .room)))
+accepted-next rd s b m n h e =
+    simp (eq-eqb _ _ (h .whole), le-leb _ _ (h .ordered), le-leb _ _ (h .inside), e, ne-eqb (s .messages) 18446744073709551615 (λ i. omega (arith, h .room)))
 
 -- a message in front is taken, and counted under its tag
 abbrev counts-at : List ℕ → ℕ → List ℕ
