@@ -1,5 +1,7 @@
 // Lists of single calls, and what every line on a call is made of: the sum of lent bytes, and numbers in decimal. What a list is, and what a call on it
 // asks for, is defined in specs/Calls.antt.
+#![tactic(auto)]
+
 ghost use Rattle.std.specs.Prelude.{◌+◌, ◌*◌, ◌%◌, ◌≤◌, min, ◌∷◌, ◌++◌, ◌≡◌, length, take, drop};
 ghost use Rattle.format.specs.Layout.{field, num};
 ghost use Rattle.text.specs.Decimal.{decimal_of, Wrote, Puts};
@@ -104,7 +106,7 @@ fn least(a: usize, b: usize) -> usize
 }
 
 // What a call asks for: its numbers, how many bytes A and B have, and the place behind it.
-#[derive(Drop)]
+#[derive(Clone, Copy)]
 pub struct Asked {
     pub v: [u64; 17],
     pub na: usize,

@@ -63,7 +63,7 @@ pub fn step(lent: bool, which: u64, s: Stream, a: &mut [u8], n: usize, reading: 
 }
 
 // What the playing slice answered, and the position behind it.
-#[derive(Drop)]
+#[derive(Clone, Copy)]
 pub struct FlatPlayed {
     pub flat: Flat,
     pub at: u64,

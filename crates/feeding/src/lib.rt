@@ -1,8 +1,11 @@
 // Reads of standard input for a stream.
+#![tactic(auto)]
+
 ghost use Rattle.std.specs.Prelude.{◌≡◌};
 ghost use Rattle.feeding.specs.Turns.{is_ready, tell_of, Fed};
 
 use standard::Brought;
+use std::io::Stdin;
 use stream::{Answer, Step, Stream};
 
 // Whether the answer is ready: there is room, or bytes came.
@@ -30,7 +33,7 @@ fn tell(s: Stream, b: Brought) -> Step
 }
 
 // A turn: the state and the answer behind it, and what its read brought.
-#[derive(Drop)]
+#[derive(Clone, Copy)]
 pub struct Turn {
     pub step: Step,
     pub brought: Brought,
@@ -38,7 +41,7 @@ pub struct Turn {
 
 // One read for a stream: room is made, the free part of the buffer is handed on for the read of standard input, and the state is told what came of it. Where no room
 // is made that is the answer, and nothing is read. What was read before is handed in, and comes back with this read.
-pub fn feed(s: Stream, b: Brought, buf: &mut [u8]) -> Turn
+pub fn feed(input: Stdin, s: Stream, b: Brought, buf: &mut [u8]) -> Turn
     ensures { Fed s b buf.old result buf.new }
 {
     let room = refill::make_room_of(s, buf);
@@ -50,7 +53,7 @@ pub fn feed(s: Stream, b: Brought, buf: &mut [u8]) -> Turn
     }
     let state = room.state;
     let end = state.end;
-    let brought = standard::read(b, &mut buf[end..]);
+    let brought = standard::read(input, b, &mut buf[end..]);
     let step = tell(state, brought);
     Turn { step, brought }
 }

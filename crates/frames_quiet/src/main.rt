@@ -1,4 +1,6 @@
 // Walks standard input by its frames: a stored run of `frames` with the word `quiet`, over the frames of `frames_kinds`.
-fn main() {
-    framing::start();
+#![tactic(auto)]
+
+fn main(rt: HostRuntime) {
+    framing::start(&rt, rt.stdin(), rt.stdout(), rt.stderr());
 }

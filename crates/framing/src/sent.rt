@@ -7,10 +7,11 @@ ghost use Rattle.framing.specs.Texts.{Lines, Closes};
 use format::Reading;
 use lines::Blocked;
 use standard::{Brought, Written};
+use std::io::Stdout;
 use walk::Walk;
 
 // The state up to which all lines are handed to writes, quiet or not; the last write, and whether it was that of the closing lines.
-#[derive(Drop)]
+#[derive(Clone, Copy)]
 pub struct Sent {
     quiet: bool,
     state: Walk,
@@ -58,13 +59,20 @@ pub(super) fn taken(s: Sent) -> bool
 }
 
 // Writes the lines of one call.
-pub(super) fn put(s: Sent, block: &[u8], from: usize, r: Blocked, text: &[u8]) -> Sent
+pub(super) fn put(
+    output: Stdout,
+    s: Sent,
+    block: &[u8],
+    from: usize,
+    r: Blocked,
+    text: &[u8],
+) -> Sent
     requires { Lines s block.now from r text.now }
     ensures quiet_value { result.quiet ≡ s.quiet }
     ensures state_value { result.state ≡ r.state }
     ensures bytes_value { result.written.bytes ≡ length text.now }
 {
-    let written = standard::write(text);
+    let written = standard::write(output, text);
     let state = r.state;
     Sent {
         quiet: s.quiet,
@@ -75,14 +83,14 @@ pub(super) fn put(s: Sent, block: &[u8], from: usize, r: Blocked, text: &[u8]) -
 }
 
 // Writes the closing lines.
-pub(super) fn close(s: Sent, b: Brought, text: &[u8]) -> Sent
+pub(super) fn close(output: Stdout, s: Sent, b: Brought, text: &[u8]) -> Sent
     requires { Closes s b text.now }
     ensures quiet_value { result.quiet ≡ s.quiet }
     ensures state_value { result.state ≡ s.state }
     ensures bytes_value { result.written.bytes ≡ length text.now }
     ensures closed_value { result.closed ≡ true }
 {
-    let written = standard::write(text);
+    let written = standard::write(output, text);
     let state = s.state;
     Sent {
         quiet: s.quiet,

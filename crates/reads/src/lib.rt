@@ -1,5 +1,7 @@
 // Lists of cases, which play reads to a stream, failed ones too, that a run on a file cannot have. What a list is, where a case ends and what a read
 // brings is defined in specs/Reads.antt.
+#![tactic(auto)]
+
 ghost use Rattle.std.specs.Prelude.{◌+◌, ◌-◌, ◌≤◌, min, ◌++◌, ◌≡◌, length, take, drop};
 ghost use Rattle.reads.specs.Reads.{head_of, closes, is_read, brings_of, case_end_of, due_of, fails_of, held_of, read_of, brought_of, has_more_of};
 
@@ -81,14 +83,14 @@ pub fn case_end(list: &[u8], from: usize) -> usize
 }
 
 // The place of the read that comes next; the `left` bytes before it are of one that was brought in part.
-#[derive(Drop)]
+#[derive(Clone, Copy)]
 pub struct Place {
     pub i: usize,
     pub left: usize,
 }
 
 // What a read came to: the place behind it, and how many bytes, or that it failed.
-#[derive(Drop)]
+#[derive(Clone, Copy)]
 pub struct Read {
     pub place: Place,
     pub count: usize,
@@ -164,7 +166,7 @@ fn bring(list: &[u8], i: usize, n: usize, free: &mut [u8]) -> usize
     let count = least(n, free.len());
     let from = i - n;
     let to = from + count;
-    bytes::copy(&list[from..to], free);
+    free[..count].copy_from_slice(&list[from..to]);
     count
 }
 

@@ -1,4 +1,6 @@
 // Writes every message back and compares: a stored run of `rewrite` with the word `strict`, over the recording of `frames_strict`, to its first refusal.
-fn main() {
-    rewriting::start();
+#![tactic(auto)]
+
+fn main(rt: HostRuntime) {
+    rewriting::start(&rt, rt.stdin(), rt.stdout(), rt.stderr());
 }

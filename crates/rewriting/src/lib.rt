@@ -2,6 +2,8 @@
 // its tag and `same` or `other`; then how many there were, how many were the same, and how many bytes were read of a message that is none: cut short, or
 // refused. There it stops, and says on standard error where in the recording that message begins. Bytes are taken one by one: each prefix of a message but
 // itself is incomplete, so the window is always one message. A read or a write that fails ends the program, with a word on standard error.
+#![tactic(auto)]
+
 ghost use Rattle.std.specs.Prelude.{◌≡◌, true, false, ◌≤◌, eqb, take};
 ghost use Rattle.format.specs.Layout.{be, part};
 ghost use Rattle.format.specs.Rows.{size_of, window};
@@ -12,12 +14,14 @@ ghost use Rattle.words.specs.Words.{reading_of};
 use format::Reading;
 use reader::Window;
 use records::Message;
+use std::io::{Stderr, Stdin, Stdout};
+use std::rt::{Env, Files};
 use words::Words;
 use writer::Written;
 
 // How it reads and writes, from the start to the end; the window and how many bytes of it are there; where in the recording it begins; how many messages there were, and how many the same; whether to read
 // on, and the number of what it stopped with, 0 for the recording's end; whether no write failed.
-#[derive(Drop)]
+#[derive(Clone, Copy)]
 struct State {
     reading: Reading,
     window: [u8; 52],
@@ -62,11 +66,11 @@ fn rewritten(m: Message, bytes: [u8; 52], n: usize, reading: Reading) -> bool
 }
 
 // A message's line; whether it could be written.
-fn line(tag: u8, same: bool) -> bool {
+fn line(output: Stdout, tag: u8, same: bool) -> bool {
     if same {
-        standard::print(&[tag, b' ', b's', b'a', b'm', b'e', b'\n'])
+        standard::print(output, &[tag, b' ', b's', b'a', b'm', b'e', b'\n'])
     } else {
-        standard::print(&[tag, b' ', b'o', b't', b'h', b'e', b'r', b'\n'])
+        standard::print(output, &[tag, b' ', b'o', b't', b'h', b'e', b'r', b'\n'])
     }
 }
 
@@ -80,7 +84,7 @@ fn past(offset: u64, n: usize) -> u64 {
 }
 
 // A message of n bytes is written back, compared and counted, and the window is empty again.
-fn counted(s: State, m: Message, n: usize) -> State
+fn counted(output: Stdout, s: State, m: Message, n: usize) -> State
     requires { window_m (Window·.Message m n) ≡ window s.reading s.window }
     ensures { result.reading ≡ s.reading }
 {
@@ -88,7 +92,7 @@ fn counted(s: State, m: Message, n: usize) -> State
     let window = s.window;
     let tag = m.tag;
     let same = rewritten(m, window, n, reading);
-    let written = line(tag, same);
+    let written = line(output, tag, same);
     if s.messages == u64::MAX {
         return State {
             reading,
@@ -151,7 +155,7 @@ fn ended(s: State) -> State
 }
 
 // One byte more.
-fn fed(s: State, b: u8) -> State
+fn fed(output: Stdout, s: State, b: u8) -> State
     ensures { result.reading ≡ s.reading }
 {
     let reading = s.reading;
@@ -174,20 +178,20 @@ fn fed(s: State, b: u8) -> State
     };
     let r = reader::parse_message(&window[..have + 1], reading);
     match r {
-        Window::Message(m, n) => counted(t, m, n),
+        Window::Message(m, n) => counted(output, t, m, n),
         Window::Incomplete => t,
         Window::Refused(number, _) => halted(t, number),
     }
 }
 
 // The bytes of a block, up to where it stops.
-fn block(s: State, bytes: &[u8]) -> State
+fn block(output: Stdout, s: State, bytes: &[u8]) -> State
     ensures { result.reading ≡ s.reading }
 {
     let mut state = s;
     let mut i = 0;
     while i < bytes.len() {
-        let next = fed(state, bytes[i]);
+        let next = fed(output, state, bytes[i]);
         state = next;
         if state.stopped {
             return state;
@@ -198,11 +202,11 @@ fn block(s: State, bytes: &[u8]) -> State
 }
 
 // One read.
-fn read_some(s: State) -> State
+fn read_some(input: Stdin, output: Stdout, s: State) -> State
     ensures { result.reading ≡ s.reading }
 {
     let mut buf = [0u8; 4096];
-    let b = standard::read(standard::unread(), &mut buf);
+    let b = standard::read(input, standard::unread(), &mut buf);
     if standard::failed(b) {
         return halted(s, 11);
     }
@@ -210,11 +214,11 @@ fn read_some(s: State) -> State
     if n == 0 {
         return ended(s);
     }
-    block(s, &buf[..n])
+    block(output, s, &buf[..n])
 }
 
 // All reads, by the reading that the words ask for: until it stops, or after 2^64 - 1 of them.
-fn read_all(words: Words) -> State
+fn read_all(input: Stdin, output: Stdout, words: Words) -> State
     ensures { result.reading ≡ reading_of words }
 {
     let reading = words::reading(words);
@@ -231,7 +235,7 @@ fn read_all(words: Words) -> State
     };
     let mut turns = u64::MAX;
     while turns > 0 {
-        let next = read_some(state);
+        let next = read_some(input, output, state);
         state = next;
         if state.stopped {
             return state;
@@ -242,31 +246,36 @@ fn read_all(words: Words) -> State
 }
 
 // A number in decimal; whether it could be written.
-fn number(n: u64) -> bool {
+fn number(output: Stdout, n: u64) -> bool {
     let mut text = [0u8; 20];
-    let k = io::decimal(n, &mut text);
-    standard::print(&text[..k])
+    let k = text::decimal(n, &mut text, 0);
+    standard::print(output, &text[..k])
 }
 
 // The last line; whether it could be written.
-fn totals(s: State) -> bool {
-    standard::print(b"messages ")
-        && number(s.messages)
-        && standard::print(b" same ")
-        && number(s.same)
-        && standard::print(b" left ")
-        && number(s.have as u64)
-        && standard::print(b"\n")
+fn totals(output: Stdout, s: State) -> bool {
+    standard::print(output, b"messages ")
+        && number(output, s.messages)
+        && standard::print(output, b" same ")
+        && number(output, s.same)
+        && standard::print(output, b" left ")
+        && number(output, s.have as u64)
+        && standard::print(output, b"\n")
 }
 
 // The program `rewrite`: what the words ask for, and nothing where they are none.
-pub fn start() {
-    let w = words::asked(false);
+pub fn start(rt: &(impl Env + Files), input: Stdin, output: Stdout, error: Stderr) {
+    let w = words::asked(rt, false);
     if !w.known {
-        words::misuse(w, b"rewrite: its words are later, strict and status\n");
+        words::misuse(
+            rt,
+            error,
+            w,
+            b"rewrite: its words are later, strict and status\n",
+        );
         return;
     }
-    let s = read_all(w);
-    let taken = s.written && totals(s);
-    words::finish(w, b"rewrite", s.number, s.offset, taken);
+    let s = read_all(input, output, w);
+    let taken = s.written && totals(output, s);
+    words::finish(rt, error, w, b"rewrite", s.number, s.offset, taken);
 }

@@ -1,4 +1,6 @@
 // Shows standard input: a line for each message with all its fields, then the messages, the bytes they took, and where the stream stopped.
-fn main() {
-    showing::show();
+#![tactic(auto)]
+
+fn main(rt: HostRuntime) {
+    showing::show(&rt, rt.stdin(), rt.stdout(), rt.stderr());
 }

@@ -1,4 +1,6 @@
 // Shows standard input: a stored run of `show` with the word `strict`, over the recording of `frames_strict`, to its first refusal.
-fn main() {
-    showing::show();
+#![tactic(auto)]
+
+fn main(rt: HostRuntime) {
+    showing::show(&rt, rt.stdin(), rt.stdout(), rt.stderr());
 }

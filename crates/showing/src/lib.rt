@@ -11,11 +11,15 @@
 // list` on standard error, behind the cases before it; so does a case of more than 262,144 bytes.
 //
 // A line: fields with a tab between them, each `name=value`. Numbers are in decimal, prices as they are on the wire.
+#![tactic(auto)]
+
 ghost use Rattle.std.specs.Prelude.{◌≡◌, ◌+◌, ◌-◌, ◌*◌, ◌≤◌, ◌<◌, length};
 
 use flat::Flat;
 use format::Reading;
 use reads::{Place, Read};
+use std::io::{Stderr, Stdin, Stdout};
+use std::rt::{Env, Files};
 use stream::Stream;
 use words::Words;
 
@@ -70,35 +74,35 @@ fn line(f: Flat, table: &[u8], starts: &[usize], out: &mut [u8], at: usize) -> u
 }
 
 // Hands what stands before `at` to the write calls, and says whether they took it.
-fn flushed(out: &[u8], at: usize) -> bool
+fn flushed(output: Stdout, out: &[u8], at: usize) -> bool
     requires { at ≤ length out.now }
 {
-    standard::print(&out[..at])
+    standard::print(output, &out[..at])
 }
 
 // Where the next line goes, and whether no write failed.
-#[derive(Drop)]
+#[derive(Clone, Copy)]
 struct Room {
     at: usize,
     written: bool,
 }
 
 // Room for a line: what is there is written, if there is too little.
-fn line_room(out: &[u8], at: usize) -> Room
+fn line_room(output: Stdout, out: &[u8], at: usize) -> Room
     requires { (6144 ≤ length out.now) × (at ≤ length out.now) }
     ensures { result.at + 6144 ≤ length out.now }
 {
     if out.len() - at < 6144 {
         return Room {
             at: 0,
-            written: flushed(out, at),
+            written: flushed(output, out, at),
         };
     }
     Room { at, written: true }
 }
 
 // An answer that is no message, and how far the output buffer is filled. A write that fails ends the run.
-#[derive(Drop)]
+#[derive(Clone, Copy)]
 struct Said {
     f: Flat,
     at: usize,
@@ -107,6 +111,7 @@ struct Said {
 
 // Takes the window's messages and puts their lines, to the first answer that is none.
 fn drain(
+    output: Stdout,
     s0: Stream,
     b: &[u8],
     table: &[u8],
@@ -129,7 +134,7 @@ fn drain(
                 written: true,
             };
         }
-        let r = line_room(out, at);
+        let r = line_room(output, out, at);
         if !r.written {
             return Said {
                 f,
@@ -144,9 +149,9 @@ fn drain(
 }
 
 // A read: of standard input, where the stream is read raw, or of the list.
-fn fetched(raw: bool, list: &[u8], p: Place, free: &mut [u8]) -> Read {
+fn fetched(input: Stdin, raw: bool, list: &[u8], p: Place, free: &mut [u8]) -> Read {
     if raw {
-        let b = standard::read(standard::unread(), free);
+        let b = standard::read(input, standard::unread(), free);
         return Read {
             place: p,
             count: standard::bytes(b),
@@ -164,7 +169,7 @@ fn told(s: Stream, count: usize, failed: bool) -> Flat {
 }
 
 // What was said behind a turn, and whether there was a read.
-#[derive(Drop)]
+#[derive(Clone, Copy)]
 struct Fed {
     f: Flat,
     place: Place,
@@ -173,7 +178,7 @@ struct Fed {
 
 // Where the stream wants bytes there is a read: room is made, the free part of the buffer is handed on for it, and the state is told what came of it.
 // Any other answer stays.
-fn feed(said: Flat, buf: &mut [u8], raw: bool, list: &[u8], p: Place) -> Fed {
+fn feed(input: Stdin, said: Flat, buf: &mut [u8], raw: bool, list: &[u8], p: Place) -> Fed {
     if said.kind != flat::WANTS {
         return Fed {
             f: said,
@@ -192,7 +197,7 @@ fn feed(said: Flat, buf: &mut [u8], raw: bool, list: &[u8], p: Place) -> Fed {
     }
     let state = room.state;
     let end = state.end;
-    let r = fetched(raw, list, p, &mut buf[end..]);
+    let r = fetched(input, raw, list, p, &mut buf[end..]);
     let place = r.place;
     let f = told(state, r.count, r.failed);
     Fed {
@@ -204,7 +209,7 @@ fn feed(said: Flat, buf: &mut [u8], raw: bool, list: &[u8], p: Place) -> Fed {
 
 // A run: its last answer, the place in the list, whether it goes on, how many refusals and nothing-mores there were since a read, and how far the
 // output buffer is filled.
-#[derive(Drop)]
+#[derive(Clone, Copy)]
 struct Run {
     f: Flat,
     place: Place,
@@ -226,6 +231,7 @@ fn goes_on(list: &[u8], p: Place, silent: u8, read: bool) -> bool {
 
 // Puts what was said, in a case, and decides how the run goes on.
 fn answered(
+    output: Stdout,
     d: Fed,
     raw: bool,
     list: &[u8],
@@ -251,7 +257,7 @@ fn answered(
             written: true,
         };
     }
-    let r = line_room(out, at);
+    let r = line_room(output, out, at);
     let then = line(f, table, starts, out, r.at);
     Run {
         f,
@@ -265,6 +271,8 @@ fn answered(
 
 // Tries next, to an answer that is no message, and reads where it wants bytes.
 fn turn(
+    input: Stdin,
+    output: Stdout,
     c: Run,
     buf: &mut [u8],
     raw: bool,
@@ -280,7 +288,7 @@ fn turn(
     let last = c.f;
     let s = last.state;
     let place = c.place;
-    let d = drain(s, buf, table, starts, out, c.at, reading);
+    let d = drain(output, s, buf, table, starts, out, c.at, reading);
     let said = d.f;
     if !d.written {
         return Run {
@@ -292,12 +300,14 @@ fn turn(
             written: false,
         };
     }
-    let fed = feed(said, buf, raw, list, place);
-    answered(fed, raw, list, c.silent, table, starts, out, d.at)
+    let fed = feed(input, said, buf, raw, list, place);
+    answered(output, fed, raw, list, c.silent, table, starts, out, d.at)
 }
 
 // A run from a fresh stream on: raw, or the case at a place of the list. No input has as many turns as are allowed.
 fn turns(
+    input: Stdin,
+    output: Stdout,
     raw: bool,
     list: &[u8],
     i: usize,
@@ -326,7 +336,9 @@ fn turns(
     };
     let mut left = u64::MAX;
     while left > 0 {
-        let then = turn(c, &mut buf, raw, list, table, starts, out, reading);
+        let then = turn(
+            input, output, c, &mut buf, raw, list, table, starts, out, reading,
+        );
         c = then;
         if !c.more {
             return c;
@@ -367,18 +379,18 @@ fn end_line(s: Stream, out: &mut [u8], at: usize) -> usize
 }
 
 // The last lines, behind what is in the output buffer; whether all was written.
-fn last_lines(f: Flat, written: bool, out: &mut [u8], at: usize) -> bool
+fn last_lines(output: Stdout, f: Flat, written: bool, out: &mut [u8], at: usize) -> bool
     requires { (6144 ≤ length out.old) × (at ≤ length out.old) }
 {
     if !written {
         return false;
     }
-    let r = line_room(out, at);
+    let r = line_room(output, out, at);
     if !r.written {
         return false;
     }
     let n = closing(f, out, r.at);
-    flushed(out, n)
+    flushed(output, out, n)
 }
 
 // The number that a run stopped with: a refusal's, and 0 at a clean end.
@@ -392,20 +404,39 @@ fn number_of(f: Flat) -> u8 {
 }
 
 // Shows standard input, and says how it went.
-fn show_all(words: Words, table: &[u8], starts: &[usize], out: &mut [u8])
+fn show_all(
+    rt: &impl Files,
+    input: Stdin,
+    output: Stdout,
+    error: Stderr,
+    words: Words,
+    table: &[u8],
+    starts: &[usize],
+    out: &mut [u8],
+)
     requires { 6144 ≤ length out.old }
 {
     let reading = words::reading(words);
     let none = [0u8; 1];
-    let c = turns(true, &none, 0, table, starts, out, 0, reading);
+    let c = turns(
+        input, output, true, &none, 0, table, starts, out, 0, reading,
+    );
     let f = c.f;
     let state = f.state;
-    let taken = last_lines(f, c.written, out, c.at);
-    words::finish(words, b"show", number_of(f), stream::consumed(state), taken);
+    let taken = last_lines(output, f, c.written, out, c.at);
+    words::finish(
+        rt,
+        error,
+        words,
+        b"show",
+        number_of(f),
+        stream::consumed(state),
+        taken,
+    );
 }
 
 // Cases that were played: the place behind them, and what is in the output buffer.
-#[derive(Drop)]
+#[derive(Clone, Copy)]
 struct Played {
     i: usize,
     at: usize,
@@ -414,6 +445,8 @@ struct Played {
 
 // The case at a place. The place behind it is the answer's.
 fn one_case(
+    input: Stdin,
+    output: Stdout,
     list: &[u8],
     i: usize,
     end: usize,
@@ -426,10 +459,12 @@ fn one_case(
     requires { (6144 ≤ length out.old) × (at ≤ length out.old) }
     ensures { (result.i ≡ end) × (result.at ≤ length out.old) }
 {
-    let c = turns(false, list, i, table, starts, out, at, reading);
+    let c = turns(
+        input, output, false, list, i, table, starts, out, at, reading,
+    );
     let f = c.f;
     let s = f.state;
-    let r = line_room(out, c.at);
+    let r = line_room(output, out, c.at);
     let n = end_line(s, out, r.at);
     Played {
         i: end,
@@ -440,6 +475,8 @@ fn one_case(
 
 // The whole cases of the list.
 fn whole_cases(
+    input: Stdin,
+    output: Stdout,
     list: &[u8],
     table: &[u8],
     starts: &[usize],
@@ -461,7 +498,9 @@ fn whole_cases(
         if end <= i {
             return c;
         }
-        let then = one_case(list, i, end, table, starts, out, c.at, reading);
+        let then = one_case(
+            input, output, list, i, end, table, starts, out, c.at, reading,
+        );
         c = then;
         if !c.written {
             return c;
@@ -481,7 +520,7 @@ fn to_front(list: &mut [u8], from: usize, n: usize)
 }
 
 // So many bytes of the list are held: from the first case that is not played on.
-#[derive(Drop)]
+#[derive(Clone, Copy)]
 struct Held {
     n: usize,
     at: usize,
@@ -490,16 +529,18 @@ struct Held {
 }
 
 // Reads behind the n bytes that are held, and answers how many there are then.
-fn more_held(held: &mut [u8], n: usize) -> usize
+fn more_held(input: Stdin, held: &mut [u8], n: usize) -> usize
     requires { n ≤ length held.old }
     ensures { result ≤ length held.old }
 {
-    let b = standard::read(standard::unread(), &mut held[n..]);
+    let b = standard::read(input, standard::unread(), &mut held[n..]);
     n + standard::bytes(b)
 }
 
 // Reads on in the list and plays its whole cases. Where no bytes come, or there is no room for any, it has ended.
 fn some_cases(
+    input: Stdin,
+    output: Stdout,
     held: &mut [u8],
     n: usize,
     table: &[u8],
@@ -511,7 +552,7 @@ fn some_cases(
     requires { (n ≤ length held.old) × (6144 ≤ length out.old) × (at ≤ length out.old) }
     ensures { (result.n ≤ length held.old) × (result.at ≤ length out.old) }
 {
-    let all = more_held(held, n);
+    let all = more_held(input, held, n);
     if all == n {
         return Held {
             n,
@@ -520,7 +561,7 @@ fn some_cases(
             written: true,
         };
     }
-    let c = whole_cases(&held[..all], table, starts, out, at, reading);
+    let c = whole_cases(input, output, &held[..all], table, starts, out, at, reading);
     let from = c.i;
     let rest = all - from;
     to_front(held, from, rest);
@@ -540,7 +581,14 @@ fn list_buffer() -> [u8; 262144]
 }
 
 // Plays the cases of standard input. No input has as many reads as are allowed.
-fn all_cases(table: &[u8], starts: &[usize], out: &mut [u8], reading: Reading) -> Held
+fn all_cases(
+    input: Stdin,
+    output: Stdout,
+    table: &[u8],
+    starts: &[usize],
+    out: &mut [u8],
+    reading: Reading,
+) -> Held
     requires { 6144 ≤ length out.old }
     ensures { result.at ≤ length out.old }
 {
@@ -553,7 +601,9 @@ fn all_cases(table: &[u8], starts: &[usize], out: &mut [u8], reading: Reading) -
     };
     let mut left = u64::MAX;
     while left > 0 {
-        let then = some_cases(&mut held, h.n, table, starts, out, h.at, reading);
+        let then = some_cases(
+            input, output, &mut held, h.n, table, starts, out, h.at, reading,
+        );
         h = then;
         if !h.more {
             return h;
@@ -564,23 +614,31 @@ fn all_cases(table: &[u8], starts: &[usize], out: &mut [u8], reading: Reading) -
 }
 
 // The same, to its end; says whether no write failed.
-fn case_all(words: Words, table: &[u8], starts: &[usize], out: &mut [u8]) -> bool
+fn case_all(
+    input: Stdin,
+    output: Stdout,
+    error: Stderr,
+    words: Words,
+    table: &[u8],
+    starts: &[usize],
+    out: &mut [u8],
+) -> bool
     requires { 6144 ≤ length out.old }
 {
     let reading = words::reading(words);
-    let h = all_cases(table, starts, out, reading);
+    let h = all_cases(input, output, table, starts, out, reading);
     if !h.written {
         return false;
     }
     if h.n > 0 {
-        io::write_all(2, b"cases: bad case list\n");
+        let _ = error.println("cases: bad case list");
     }
-    flushed(out, h.at)
+    flushed(output, out, h.at)
 }
 
 // The templates of the lines, one behind the other: nothing more, refused, and for each letter from A to Y what comes behind `body=` in the line of a message
 // whose body has this tag; none for the letters that are no tag. Last is h's.
-fn go(raw: bool, words: Words) {
+fn go(rt: &impl Files, input: Stdin, output: Stdout, error: Stderr, raw: bool, words: Words) {
     let table: &[u8] = b"\
         nothing\n{.\
         refused {n} {n}\n{.\
@@ -636,28 +694,33 @@ fn go(raw: bool, words: Words) {
         RegShoRestriction\tstock={8}\taction={0=None,1=Intraday,2=Extant,}\n{.\
         OperationalHalt\tstock={8}\tmarket_code={Q=Nasdaq,B=Bx,X=Psx,}\taction={H=Halted,T=Resumed,}\n{.";
     let starts = templates::starts_of(table);
-    let mut out = io::large_buffer();
+    let mut out = [0u8; 65536];
     if raw {
-        show_all(words, table, &starts, &mut out);
+        show_all(rt, input, output, error, words, table, &starts, &mut out);
         return;
     }
-    if !case_all(words, table, &starts, &mut out) {
-        io::write_all(2, b"cases: a write failed\n");
+    if !case_all(input, output, error, words, table, &starts, &mut out) {
+        let _ = error.println("cases: a write failed");
     }
 }
 
 // The program `show`: what the words ask for, and nothing where they are none.
-pub fn show() {
-    let w = words::asked(false);
+pub fn show(rt: &(impl Env + Files), input: Stdin, output: Stdout, error: Stderr) {
+    let w = words::asked(rt, false);
     if w.known {
-        go(true, w);
+        go(rt, input, output, error, true, w);
         return;
     }
-    words::misuse(w, b"show: its words are later, strict and status\n");
+    words::misuse(
+        rt,
+        error,
+        w,
+        b"show: its words are later, strict and status\n",
+    );
 }
 
 // The program `cases`, which has no words: it reads by the old edition and not strictly, as the Rust does.
-pub fn cases() {
+pub fn cases(rt: &impl Files, input: Stdin, output: Stdout, error: Stderr) {
     let none = Words {
         quiet: false,
         later: false,
@@ -665,5 +728,5 @@ pub fn cases() {
         status: false,
         known: true,
     };
-    go(false, none);
+    go(rt, input, output, error, false, none);
 }

@@ -1,11 +1,16 @@
-// Standard input and standard output. The only call of the C library's read and the only write to standard output stand here, each in one function. What
-// it did is told by a value that nothing else makes, since its fields are private: so a contract of any crate can speak of reads and writes.
-ghost use Rattle.std.specs.Prelude.{◌≡◌, true, ◌+◌, min, length};
+// Standard input and standard output. The only read of the one and the only write to the other stand here, each in one function. What it did is told by a
+// value that nothing else makes, since its fields are private: so a contract of any crate can speak of reads and writes. The handles are the process's own,
+// and no trait's: who has such a value has read standard input itself, or written to standard output itself.
+#![tactic(auto)]
+
+ghost use Rattle.std.specs.Prelude.{◌≡◌, true, ◌+◌, ◌≤◌, min, length};
 ghost use Rattle.standard.specs.Reads.{Reads};
+
+use std::io::{Read, Stdin, Stdout};
 
 // The reads so far. Of the last one: how many bytes it had room for (0: there was none yet), whether it failed, and how many bytes it put at the start of
 // what it was handed. And the bytes that all of them brought, 2^64 - 1 where they are more.
-#[derive(Drop)]
+#[derive(Clone, Copy)]
 pub struct Brought {
     room: usize,
     failed: bool,
@@ -14,7 +19,7 @@ pub struct Brought {
 }
 
 // A write: how many bytes it was handed, and whether it took them all.
-#[derive(Drop)]
+#[derive(Clone, Copy)]
 pub struct Written {
     bytes: usize,
     taken: bool,
@@ -42,27 +47,25 @@ fn sum(a: u64, n: usize) -> u64
     a + came
 }
 
-// One read of standard input more. Of the bytes that it puts into the free part nothing can be said.
-pub fn read(b: Brought, free: &mut [u8]) -> Brought
+// One read of standard input more: one call of the system, and no byte is read ahead. A call that a signal interrupts is one that failed. Of the bytes that
+// it puts into the free part nothing can be said.
+pub fn read(mut input: Stdin, b: Brought, free: &mut [u8]) -> Brought
     ensures { Reads b (length free.old) result }
 {
     let room = free.len();
-    let got = libc::read(0, free);
-    if got < 0 {
-        return Brought {
+    match input.read(free) {
+        Ok(bytes) => Brought {
+            room,
+            failed: false,
+            bytes,
+            total: sum(b.total, bytes),
+        },
+        Err(_) => Brought {
             room,
             failed: true,
             bytes: 0,
             total: b.total,
-        };
-    }
-    let bytes = io::count(got, free);
-    let total = sum(b.total, bytes);
-    Brought {
-        room,
-        failed: false,
-        bytes,
-        total,
+        },
     }
 }
 
@@ -80,6 +83,22 @@ pub fn bytes(b: Brought) -> usize
     b.bytes
 }
 
+// Reads standard input until the room is full, the input ends or a read fails, and answers how many bytes stand at its start then.
+pub fn read_full(input: Stdin, room: &mut [u8]) -> usize
+    ensures { result ≤ length room.old }
+{
+    let mut done = 0;
+    while done < room.len() {
+        let b = read(input, unread(), &mut room[done..]);
+        let n = bytes(b);
+        if n == 0 {
+            return done;
+        }
+        done += n;
+    }
+    done
+}
+
 // Nothing was written yet.
 pub fn unwritten() -> Written
     ensures { (result.bytes ≡ 0) × (result.taken ≡ true) }
@@ -91,17 +110,17 @@ pub fn unwritten() -> Written
 }
 
 // One write to standard output. Which text it is, the caller's contract says.
-pub fn write(text: &[u8]) -> Written
+pub fn write(output: Stdout, text: &[u8]) -> Written
     ensures { result.bytes ≡ length text.now }
 {
     let bytes = text.len();
-    let taken = io::write_all(1, text);
+    let taken = output.write_all(text).is_ok();
     Written { bytes, taken }
 }
 
 // One write to standard output of a text that no definition says, and whether it took all bytes. No value tells of it, so no contract rests on it.
-pub fn print(text: &[u8]) -> bool {
-    let w = write(text);
+pub fn print(output: Stdout, text: &[u8]) -> bool {
+    let w = write(output, text);
     taken(w)
 }
 

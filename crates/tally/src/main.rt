@@ -1,4 +1,6 @@
 // Tallies standard input: the messages of each tag, all messages, and where the stream stopped. Its stored run ends in a refusal.
-fn main() {
-    tallying::start();
+#![tactic(auto)]
+
+fn main(rt: HostRuntime) {
+    tallying::start(&rt, rt.stdin(), rt.stdout(), rt.stderr());
 }

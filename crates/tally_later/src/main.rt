@@ -1,4 +1,6 @@
 // Tallies standard input: a stored run of `tally` with the word `later`, over the recording of `frames_old`, to its first refusal.
-fn main() {
-    tallying::start();
+#![tactic(auto)]
+
+fn main(rt: HostRuntime) {
+    tallying::start(&rt, rt.stdin(), rt.stdout(), rt.stderr());
 }

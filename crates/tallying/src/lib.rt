@@ -1,5 +1,7 @@
 // The run of the stream over standard input, to its first refusal or its end, with a counter for each tag value. It stands in a library, so that
 // `tally` and the three programs that only test it on other inputs are the same code.
+#![tactic(auto)]
+
 ghost use Rattle.std.specs.Prelude.{◌≡◌, false, ◌+◌, ◌≤◌, length};
 ghost use Rattle.text.specs.Decimal.{Wrote};
 ghost use Rattle.words.specs.Words.{reading_of, ending_by};
@@ -15,6 +17,8 @@ mod printed;
 use feeding::Turn;
 use format::Reading;
 pub use printed::Tally;
+use std::io::{Stderr, Stdin, Stdout};
+use std::rt::{Env, Files};
 use stream::{Answer, Step, Stream};
 use words::{Ending, Words};
 
@@ -59,7 +63,7 @@ fn skim(s0: Stream, b: &[u8], rows: &[u64; 256], count: &mut [u64]) -> Stream
 }
 
 // Where the window begins, and how many messages were taken, behind those that a skim took.
-#[derive(Drop)]
+#[derive(Clone, Copy)]
 struct Front {
     start: usize,
     messages: u64,
@@ -199,7 +203,7 @@ fn drain(
 }
 
 // Drains the window by a reading and reads, to the first answer that stops.
-fn run(count: &mut [u64], reading: Reading) -> Turn
+fn run(input: Stdin, count: &mut [u64], reading: Reading) -> Turn
     requires { Counters count.old 0 }
     ensures { Tallied reading count.old result count.new }
 {
@@ -213,7 +217,7 @@ fn run(count: &mut [u64], reading: Reading) -> Turn
         if !wants(step) {
             return Turn { step, brought: b };
         }
-        let turn = feeding::feed(step.state, b, &mut buf);
+        let turn = feeding::feed(input, step.state, b, &mut buf);
         if !feeding::ready(turn.step) {
             return turn;
         }
@@ -231,41 +235,68 @@ fn put_tally(count: &[u64], messages: u64, answer: Answer, out: &mut [u8]) -> us
 }
 
 // Says where the run stopped on standard error, and the ending to who asked for it.
-fn report(words: Words, last: Step, number: u8, t: Tally, o: Ending)
+fn report(rt: &impl Files, error: Stderr, words: Words, last: Step, number: u8, t: Tally, o: Ending)
     requires number_value { number ≡ number_of last.answer }
     requires o_value { o ≡ ending_by number t.written.taken }
 {
     let state = last.state;
-    words::stopped(b"tally", number, stream::consumed(state), printed::taken(t));
-    words::say(words, o);
+    words::stopped(
+        error,
+        b"tally",
+        number,
+        stream::consumed(state),
+        printed::taken(t),
+    );
+    words::say(rt, words, o);
 }
 
 // Runs the stream by the reading that the words ask for, and prints the counts. The answer tells of the reads and of the write. It is small: a larger
 // one, with the last message, slows the loop.
-pub fn print_tally(words: Words) -> Tally
+pub fn print_tally(
+    rt: &impl Files,
+    input: Stdin,
+    output: Stdout,
+    error: Stderr,
+    words: Words,
+) -> Tally
     ensures { Finished (reading_of words) result }
 {
     let reading = words::reading(words);
     let mut count = [0u64; 256];
     let mut out = [0u8; 8192];
-    let last = run(&mut count, reading);
+    let last = run(input, &mut count, reading);
     let step = last.step;
     let state = step.state;
     let answer = step.answer;
     let n = put_tally(&count, state.messages, answer, &mut out);
-    let tally = printed::write(&count, last, &out[..n], reading);
+    let tally = printed::write(output, &count, last, &out[..n], reading);
     let number = tally_lines::number_of(answer);
     let taken = printed::taken(tally);
-    report(words, step, number, tally, words::ending_by(number, taken));
+    report(
+        rt,
+        error,
+        words,
+        step,
+        number,
+        tally,
+        words::ending_by(number, taken),
+    );
     tally
 }
 
-// The program: what the words ask for, and nothing where they are none.
-pub fn start() {
-    let w = words::asked(false);
+// The program: what the words ask for, and nothing where they are none. Answers how many bytes its last read brought, for who runs it on one input after the
+// other.
+pub fn start(rt: &(impl Env + Files), input: Stdin, output: Stdout, error: Stderr) -> usize {
+    let w = words::asked(rt, false);
     if w.known {
-        print_tally(w);
-        return;
+        let tally = print_tally(rt, input, output, error, w);
+        return printed::last_read(tally);
     }
-    words::misuse(w, b"tally: its words are later, strict and status\n");
+    words::misuse(
+        rt,
+        error,
+        w,
+        b"tally: its words are later, strict and status\n",
+    );
+    0
 }

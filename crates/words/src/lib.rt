@@ -1,14 +1,20 @@
 // The words that a program is started with, and the byte by which it says how its run went. A Rattle program has no exit status: started by hand it says
 // all on standard output and standard error. Started with the word `status` it also says one byte on descriptor 3, as its last act, and who started
 // it makes a status of that.
+#![tactic(auto)]
+
 ghost use Rattle.std.specs.Prelude.{◌≡◌};
 ghost use Rattle.words.specs.Words.{equal, word_of, unknown_of, once_of, with_of, reading_of, byte_of, ending_by};
 
 use format::{Edition, Reading};
+use std::env::FillError;
+use std::fs::OpenOptions;
+use std::io::{Stderr, Write};
+use std::rt::{Env, Files};
 
 // What one word asks for: `quiet`, lines for what is refused only; `later`, the later edition; `strict`, the strict reading; `status`, the byte at the
 // end; anything else is no word.
-#[derive(Drop)]
+#[derive(Clone, Copy)]
 pub enum Word {
     Quiet,
     Later,
@@ -18,7 +24,7 @@ pub enum Word {
 }
 
 // What all words ask for, and whether each is one that the program has, and none is there twice.
-#[derive(Drop)]
+#[derive(Clone, Copy)]
 pub struct Words {
     pub quiet: bool,
     pub later: bool,
@@ -28,7 +34,7 @@ pub struct Words {
 }
 
 // How a run went: all was accepted; something was refused, or bytes are left over; the words are none, so there was no run; a read or a write failed.
-#[derive(Drop)]
+#[derive(Clone, Copy)]
 pub enum Ending {
     Clean,
     Found,
@@ -150,15 +156,18 @@ pub fn byte_of(o: Ending) -> u8
     }
 }
 
-// The word at a place among the program's arguments. One that is longer than any word is none.
-fn word_at(i: usize) -> Word {
+// The word at a place among the program's arguments, if there is one. One that is longer than any word is none of the words.
+fn word_at(rt: &impl Env, i: usize) -> Option<Word> {
     let mut buf = [0u8; 16];
-    let n = os::arg(i, &mut buf);
-    word_of(&buf[..n])
+    match rt.arg(i, &mut buf) {
+        Ok(n) => Some(word_of(&buf[..n])),
+        Err(FillError::TooLong) => Some(Word::Other),
+        Err(FillError::NotPresent) => None,
+    }
 }
 
 // The words that this program was started with.
-pub fn asked(has: bool) -> Words {
+pub fn asked(rt: &impl Env, has: bool) -> Words {
     let mut w = Words {
         quiet: false,
         later: false,
@@ -166,12 +175,11 @@ pub fn asked(has: bool) -> Words {
         status: false,
         known: true,
     };
-    let n = os::arg_count();
-    let mut i = 1;
-    while i < n {
-        let then = with(w, word_at(i), has);
-        w = then;
-        i += 1;
+    for i in 1..usize::MAX {
+        match word_at(rt, i) {
+            Some(word) => w = with(w, word, has),
+            None => return w,
+        }
     }
     w
 }
@@ -193,17 +201,26 @@ pub fn reading(w: Words) -> Reading
     }
 }
 
+// One byte on descriptor 3, which the system has as a file of this name. Where that is none, or takes no byte, nothing is said.
+fn signal(rt: &impl Files, byte: u8) {
+    let mut how = OpenOptions::new();
+    how.append(true);
+    if let Ok(mut file) = how.open(rt, "/dev/fd/3") {
+        let _ = file.write_all(&[byte]);
+    }
+}
+
 // The last act of a program that was asked for it: the ending's byte on descriptor 3.
-pub fn say(w: Words, o: Ending) {
+pub fn say(rt: &impl Files, w: Words, o: Ending) {
     if w.status {
-        io::write_all(3, &[byte_of(o)]);
+        signal(rt, byte_of(o));
     }
 }
 
 // For words that the program has not: a line on standard error, and the byte.
-pub fn misuse(w: Words, line: &[u8]) {
-    io::write_all(2, line);
-    say(w, Ending::Misused);
+pub fn misuse(rt: &impl Files, error: Stderr, w: Words, line: &[u8]) {
+    let _ = error.write_all(line);
+    say(rt, w, Ending::Misused);
 }
 
 // How a run of the stream went, by the number that it stopped with and by whether all writes were taken.
@@ -223,23 +240,30 @@ pub fn ending_by(number: u8, taken: bool) -> Ending
 }
 
 // On standard error, where in the recording a run of the stream stopped, unless that is its clean end, and whether a write failed.
-pub fn stopped(name: &[u8], number: u8, offset: u64, taken: bool) {
+pub fn stopped(error: Stderr, name: &[u8], number: u8, offset: u64, taken: bool) {
     if number != 0 {
-        io::write_all(2, name);
-        io::write_all(2, b": stopped with ");
-        io::print_decimal(2, number as u64);
-        io::write_all(2, b" at the message that begins at byte ");
-        io::print_decimal(2, offset);
-        io::write_all(2, b"\n");
+        let _ = error.write_all(name);
+        let _ = error.print(": stopped with ");
+        let _ = error.print(number);
+        let _ = error.print(" at the message that begins at byte ");
+        let _ = error.println(offset);
     }
     if !taken {
-        io::write_all(2, name);
-        io::write_all(2, b": a write failed\n");
+        let _ = error.write_all(name);
+        let _ = error.println(": a write failed");
     }
 }
 
 // The end of a program that runs the stream: what `stopped` says, and the byte.
-pub fn finish(w: Words, name: &[u8], number: u8, offset: u64, taken: bool) {
-    stopped(name, number, offset, taken);
-    say(w, ending_by(number, taken));
+pub fn finish(
+    rt: &impl Files,
+    error: Stderr,
+    w: Words,
+    name: &[u8],
+    number: u8,
+    offset: u64,
+    taken: bool,
+) {
+    stopped(error, name, number, offset, taken);
+    say(rt, w, ending_by(number, taken));
 }
