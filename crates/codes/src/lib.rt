@@ -1,6 +1,8 @@
 // The names behind the codes: the Rust's enums, and for each the name of a byte (`.._of`) and the byte of a name (`.._code`). Which byte stands
 // for a name, and so which name a byte has, is said once, in specs/Names. A byte that is no code of its set has the last name: the leaves refuse
 // it before it gets here.
+#![tactic(auto)]
+
 mod market;
 mod stock;
 mod subtype;

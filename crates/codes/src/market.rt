@@ -3,7 +3,7 @@ ghost use Rattle.std.specs.Prelude.{◌≡◌};
 ghost use Rattle.codes.specs.Names.{action_byte, action_from, event_byte, event_from, halt_byte, halt_from, level_byte, level_from, maker_mode_byte, maker_mode_from, market_byte, market_from, participant_state_byte, participant_state_from, qualifier_byte, qualifier_from, trading_state_byte, trading_state_from};
 
 // The hour of the day that the whole market has come to: S.
-#[derive(Drop)]
+#[derive(Clone, Copy)]
 pub enum EventCode {
     StartOfMessages,
     StartOfSystemHours,
@@ -42,7 +42,7 @@ pub fn event_code(x: EventCode) -> u8
 }
 
 // Whether a stock trades: H.
-#[derive(Drop)]
+#[derive(Clone, Copy)]
 pub enum TradingState {
     Halted,
     Paused,
@@ -75,7 +75,7 @@ pub fn trading_state_code(x: TradingState) -> u8
 }
 
 // The short sale restriction on a stock: Y.
-#[derive(Drop)]
+#[derive(Clone, Copy)]
 pub enum RegShoAction {
     None,
     Intraday,
@@ -105,7 +105,7 @@ pub fn action_code(x: RegShoAction) -> u8
 }
 
 // How a market maker makes the market of a stock: L.
-#[derive(Drop)]
+#[derive(Clone, Copy)]
 pub enum MarketMakerMode {
     Normal,
     Passive,
@@ -141,7 +141,7 @@ pub fn maker_mode_code(x: MarketMakerMode) -> u8
 }
 
 // Whether a participant is there for a stock: L.
-#[derive(Drop)]
+#[derive(Clone, Copy)]
 pub enum MarketParticipantState {
     Active,
     Excused,
@@ -177,7 +177,7 @@ pub fn participant_state_code(x: MarketParticipantState) -> u8
 }
 
 // Which decline level of the market was breached: W.
-#[derive(Drop)]
+#[derive(Clone, Copy)]
 pub enum LevelBreached {
     L1,
     L2,
@@ -207,7 +207,7 @@ pub fn level_code(x: LevelBreached) -> u8
 }
 
 // Whether the release time of a new stock stands: K.
-#[derive(Drop)]
+#[derive(Clone, Copy)]
 pub enum IpoReleaseQualifier {
     Anticipated,
     Cancelled,
@@ -234,7 +234,7 @@ pub fn qualifier_code(x: IpoReleaseQualifier) -> u8
 }
 
 // Which market halts a stock by itself: h.
-#[derive(Drop)]
+#[derive(Clone, Copy)]
 pub enum MarketCode {
     Nasdaq,
     Bx,
@@ -264,7 +264,7 @@ pub fn market_code(x: MarketCode) -> u8
 }
 
 // Whether it halts the stock or lets it trade again: h.
-#[derive(Drop)]
+#[derive(Clone, Copy)]
 pub enum HaltAction {
     Halted,
     Resumed,

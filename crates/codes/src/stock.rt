@@ -4,7 +4,7 @@ ghost use Rattle.format.specs.Ascii.{'Y', 'P'};
 ghost use Rattle.codes.specs.Names.{authenticity_byte, category_byte, category_from, class_byte, class_from, etp_flag_byte, etp_flag_from, flag_byte, flag_from, status_byte, status_from, tier_byte, tier_from, yes_no_byte};
 
 // Where a stock is listed.
-#[derive(Drop)]
+#[derive(Clone, Copy)]
 pub enum MarketCategory {
     NasdaqGlobalSelect,
     NasdaqGlobalMarket,
@@ -52,7 +52,7 @@ pub fn category_code(x: MarketCategory) -> u8
 }
 
 // What its issuer has failed to do.
-#[derive(Drop)]
+#[derive(Clone, Copy)]
 pub enum FinancialStatus {
     Normal,
     Deficient,
@@ -106,7 +106,7 @@ pub fn status_code(x: FinancialStatus) -> u8
 }
 
 // The class of the security.
-#[derive(Drop)]
+#[derive(Clone, Copy)]
 pub enum IssueClassification {
     AmericanDepositaryShare,
     Bond,
@@ -175,7 +175,7 @@ pub fn class_code(x: IssueClassification) -> u8
 }
 
 // The tier of its limit up, limit down prices.
-#[derive(Drop)]
+#[derive(Clone, Copy)]
 pub enum LuldRefPriceTier {
     Tier1,
     Tier2,
@@ -205,7 +205,7 @@ pub fn tier_code(x: LuldRefPriceTier) -> u8
 }
 
 // Yes, no or absent: the Rust's Option<bool>.
-#[derive(Drop)]
+#[derive(Clone, Copy)]
 pub enum Flag {
     Yes,
     No,
@@ -235,7 +235,7 @@ pub fn flag_code(x: Flag) -> u8
 }
 
 // The ETP flag: yes, no or absent, and M, which has the letter for its name. The Rust's Option<bool> takes M for yes, and nothing says what else it means.
-#[derive(Drop)]
+#[derive(Clone, Copy)]
 pub enum EtpFlag {
     Yes,
     No,

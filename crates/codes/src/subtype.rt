@@ -9,7 +9,7 @@ ghost use Rattle.codes.specs.Names.{subtype_byte, subtype_m, subtype_fault, subt
 use format::{Fault, Num16};
 
 // What kind of security a stock is, more finely than its class: R. Declared in the order of the codes.
-#[derive(Drop)]
+#[derive(Clone, Copy)]
 pub enum IssueSubType {
     PreferredTrustSecurities,
     AlphaIndexETNs,
@@ -72,7 +72,7 @@ pub enum IssueSubType {
 }
 
 // A subtype that was read, or why there is none.
-#[derive(Drop)]
+#[derive(Clone, Copy)]
 pub enum SubtypeRead {
     Got(IssueSubType),
     No(Fault),

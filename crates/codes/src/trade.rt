@@ -3,7 +3,7 @@ ghost use Rattle.std.specs.Prelude.{◌≡◌};
 ghost use Rattle.codes.specs.Names.{cross_byte, cross_from, direction_byte, direction_from, interest_byte, interest_from, side_byte, side_from};
 
 // Which side of the book an order or a trade is on: A, F, P.
-#[derive(Drop)]
+#[derive(Clone, Copy)]
 pub enum Side {
     Buy,
     Sell,
@@ -30,7 +30,7 @@ pub fn side_code(x: Side) -> u8
 }
 
 // Which side of a cross has more: I.
-#[derive(Drop)]
+#[derive(Clone, Copy)]
 pub enum ImbalanceDirection {
     Buy,
     Sell,
@@ -63,7 +63,7 @@ pub fn direction_code(x: ImbalanceDirection) -> u8
 }
 
 // Which cross: I, Q.
-#[derive(Drop)]
+#[derive(Clone, Copy)]
 pub enum CrossType {
     Opening,
     Closing,
@@ -99,7 +99,7 @@ pub fn cross_code(x: CrossType) -> u8
 }
 
 // Which sides retail price improvement is there for: N.
-#[derive(Drop)]
+#[derive(Clone, Copy)]
 pub enum InterestFlag {
     RPIAvailableBuySide,
     RPIAvailableSellSide,

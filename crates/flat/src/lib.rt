@@ -1,5 +1,7 @@
 // What the stream answers, as numbers. Of a message they are the values that its definition has: the header's four, then the body's, which begin with
 // the body's own tag, each code as its byte, and zeros behind. Who shows a message then needs none of its types.
+#![tactic(auto)]
+
 ghost use Rattle.std.specs.Prelude.{◌≡◌, [], ◌∷◌, length};
 ghost use Rattle.stream.specs.Next.{next_of};
 ghost use Rattle.stream.specs.Room.{room_of, room_buffer};
@@ -32,7 +34,7 @@ pub const WANTS: u64 = 2;
 pub const READY: u64 = 3;
 
 // The stream's state after a call, the kind of its answer and the answer's numbers, zeros behind them.
-#[derive(Drop)]
+#[derive(Clone, Copy)]
 pub struct Flat {
     pub state: Stream,
     pub kind: u64,

@@ -3,6 +3,8 @@
 //
 // A place is a u8, so that `place + width` cannot wrap and no caller can break a leaf. The straight sums below are one load each once compiled
 // (docs/DECISIONS.md); one law over the width serves them all (proofs/Bytes).
+#![tactic(auto)]
+
 ghost use Rattle.std.specs.Prelude.{◌≡◌, cond, ◌+◌, ◌%◌, ◌^◌, ◌<◌, ◌≤◌, length};
 ghost use Rattle.format.specs.Layout.{be, part, field, num, text};
 ghost use Rattle.format.specs.Utf8.{lead, utf_step, is_fresh, well_formed, begins_at, first_bad};
@@ -10,7 +12,7 @@ ghost use Rattle.format.specs.Rows.{header_of};
 ghost use Rattle.format.specs.Meaning.{num8_m, num16_m, num32_m, num64_m, fault8, fault16, fault32, fault64, utf_m, header_m};
 
 // Which printing of the format: the old one, or the later ones, which have two messages more, h and O.
-#[derive(Drop)]
+#[derive(Clone, Copy)]
 pub enum Edition {
     Old,
     Later,
@@ -18,49 +20,49 @@ pub enum Edition {
 
 // How a message is to be read or written. Who reads or writes takes it by value, last. A strict reading also refuses times of a day or more, and text with
 // a byte outside 20 to 7e; who writes does not look at that.
-#[derive(Drop)]
+#[derive(Clone, Copy)]
 pub struct Reading {
     pub edition: Edition,
     pub strict: bool,
 }
 
 // Why a field has no value: not all of its bytes are there, or it is refused, with the number and the place.
-#[derive(Drop)]
+#[derive(Clone, Copy)]
 pub enum Fault {
     Short,
     Refused(u8, usize),
 }
 
 // A byte that was read, or why there is none.
-#[derive(Drop)]
+#[derive(Clone, Copy)]
 pub enum Num8 {
     Got(u8),
     No(Fault),
 }
 
 // A number of two bytes that was read, or why there is none.
-#[derive(Drop)]
+#[derive(Clone, Copy)]
 pub enum Num16 {
     Got(u16),
     No(Fault),
 }
 
 // A number or a text of four bytes that was read, or why there is none.
-#[derive(Drop)]
+#[derive(Clone, Copy)]
 pub enum Num32 {
     Got(u32),
     No(Fault),
 }
 
 // A number or a text of eight bytes that was read, or why there is none.
-#[derive(Drop)]
+#[derive(Clone, Copy)]
 pub enum Num64 {
     Got(u64),
     No(Fault),
 }
 
 // What stands before every body, without the length, which the reader ignores.
-#[derive(Drop)]
+#[derive(Clone, Copy)]
 pub struct Header {
     pub tag: u8,
     pub stock_locate: u16,
@@ -70,7 +72,7 @@ pub struct Header {
 }
 
 // The header that was read; short where fewer than 13 bytes are there.
-#[derive(Drop)]
+#[derive(Clone, Copy)]
 pub enum HeaderRead {
     Got(Header),
     Short,
@@ -192,7 +194,7 @@ pub fn be_u64(s: &[u8], place: u8) -> Num64
 }
 
 // Where a text stands between two bytes, by RFC 3629: between two sequences; n more bytes are due, the next from lo to hi; not UTF-8.
-#[derive(Drop)]
+#[derive(Clone, Copy)]
 pub enum Utf {
     Fresh,
     Tail(u8, u8, u8),

@@ -11,7 +11,7 @@ use native.Mathlib.Omega.{arith}
 use lib.Dec.{T, eqb, leb, leb→le, eqb→eq}
 use lib.ListN.{length, take, drop, get_or, take-append-drop}
 use lib.Seq.{length-take-le, get_or-take}
-use Rattle.format.specs.Layout.{widths, Answer, accepted, incomplete, refuses}
+use Rattle.format.specs.Layout.{widths, Answer, accepted, incomplete, refuses, be, part}
 use Rattle.format.specs.Rows.{Row, rows, rows_in, Found, found, none, find, size_in, size_of, under, under_by, header, message, body_in, window}
 use Rattle.format.specs.declared.Reading.{Reading}
 use Rattle.format.proofs.Tests.{both, le-or-lt}
@@ -74,6 +74,10 @@ pre-accepted acc (accepted ws m) vs n e = let q : m ≡ n = cc in (ws, ap (accep
 pre-accepted acc incomplete vs n e = let z : ◌≡◌ {A = ℕ} 0 1 = cc in absurd (omega arith)
 pre-accepted acc (refuses m p) vs n e = let z : ◌≡◌ {A = ℕ} 0 1 = cc in absurd (omega arith)
 
+-- the values of the header, in front of a body's
+abbrev leading : List ℕ → List ℕ
+leading s = get_or s 2 0 ∷ be (part s 3 2) ∷ be (part s 5 2) ∷ be (part s 7 6) ∷ []
+
 -- the bytes of a tag's message
 under_whole : (f : Found) (s vs : List ℕ) → Sized f → 2 + size_in f ≤ length s → Firm (under f s 13 vs)
 under_whole (found r) s vs z l = enough r.body s 13 vs accepted (omega arith) (λ ws n e. let y : ◌≡◌ {A = ℕ} 0 1 = cc in omega arith)
@@ -85,7 +89,7 @@ window-whole rd s h l =
     let t : ℕ = get_or s 2 0 in
     let z = rows-sized-in rd t in
     by-reading Firm rd s
-    (λ e. firm-pre _ (body_in rd t s) (under_whole (find (rows_in rd) t) s (t ∷ []) z.0 (omega (arith, z.1))) (sym (window-there rd s h) ∙ e))
+    (λ e. firm-pre (leading s) (body_in rd t s) (under_whole (find (rows_in rd) t) s (t ∷ []) z.0 (omega (arith, z.1))) (sym (window-there rd s h) ∙ e))
     (λ e. let y : ◌≡◌ {A = ℕ} 0 1 = cc in omega arith)
     (λ p e. let y : ◌≡◌ {A = ℕ} 0 1 = cc in omega arith)
 
@@ -125,7 +129,7 @@ window-covers rd s vs n e =
     ⊎_elim
     (λ l.
     let t : ℕ = get_or s 2 0 in
-    let a = pre-accepted _ (body_in rd t s) vs n (sym (window-there rd s l) ∙ ordinarily rd s vs n e) in
+    let a = pre-accepted (leading s) (body_in rd t s) vs n (sym (window-there rd s l) ∙ ordinarily rd s vs n e) in
     let q : t ≡ get_or vs 0 0 = ap (λ ws. get_or ws 0 0) a.2 in
     rw q at (in-covers (find (rows_in rd) t) (find rows t) s (t ∷ []) a.0 n (row_in rd t) (rows-sized t) l a.1))
     (λ l. let z : ◌≡◌ {A = ℕ} 0 1 = cc (window-cut rd s l) in absurd (omega arith))
@@ -133,7 +137,7 @@ window-covers rd s vs n e =
 
 -- these bytes are accepted by themselves
 window-tag : (rd : Reading) (s vs : List ℕ) (n : ℕ) → 13 ≤ length s → window rd s ≡ accepted vs n → get_or s 2 0 ≡ get_or vs 0 0
-window-tag rd s vs n l e = ap (λ ws. get_or ws 0 0) (pre-accepted _ (body_in rd (get_or s 2 0) s) vs n (sym (window-there rd s l) ∙ ordinarily rd s vs n e)).2
+window-tag rd s vs n l e = ap (λ ws. get_or ws 0 0) (pre-accepted (leading s) (body_in rd (get_or s 2 0) s) vs n (sym (window-there rd s l) ∙ ordinarily rd s vs n e)).2
 
 pub window-first : (rd : Reading) (s vs : List ℕ) (n : ℕ) → window rd s ≡ accepted vs n → window rd (take n s) ≡ accepted vs n
 window-first rd s vs n e =

@@ -1,5 +1,7 @@
 // The calls over a lent state, for callers that hold no reference to one. Each function puts its state into a local, lends it to the call of lent that has
 // the same name, and gives it back with the answer. Whoever calls these needs no walk.
+#![tactic(auto)]
+
 ghost use Rattle.std.specs.Prelude.{◌≡◌, length};
 ghost use Rattle.stream.specs.Next.{next_of};
 ghost use Rattle.stream.specs.Room.{room_of, room_buffer};

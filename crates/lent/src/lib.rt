@@ -1,5 +1,7 @@
 // The stream's calls over a lent state. Each takes the record apart: it hands the parts that the call looks at, start, end and counts, to a covered
 // function, and stores back the parts that the call may change. The others are not touched, whatever they are.
+#![tactic(auto)]
+
 ghost use Rattle.std.specs.Prelude.{◌≡◌, false, length};
 ghost use Rattle.stream.specs.Next.{next_of};
 ghost use Rattle.stream.specs.Room.{room_of, room_buffer};
@@ -127,7 +129,7 @@ pub fn told_failed(s: &mut Stream) -> Answer
 }
 
 // How far the slice was played, and the answer.
-#[derive(Drop)]
+#[derive(Clone, Copy)]
 pub struct Reach {
     pub at: usize,
     pub answer: Answer,

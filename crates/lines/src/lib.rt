@@ -1,4 +1,6 @@
 // The lines of `frames`, put into a lent buffer: a line for each frame that ends in a block, or, where `quiet`, for each refused one alone.
+#![tactic(auto)]
+
 ghost use Rattle.std.specs.Prelude.{◌+◌, ◌-◌, ◌*◌, ◌^◌, ◌≤◌, ◌<◌, true, cond, [], ◌∷◌, ◌++◌, ◌≡◌, length};
 ghost use Rattle.reader.specs.Window.{window_of};
 ghost use Rattle.walk.specs.Walk.{ready_of, judge_of};
@@ -152,7 +154,7 @@ fn refused_line(n: u64, code: u8, place: usize, out: &mut [u8], at: usize) -> us
 
 // Why the lines of accepted frames stop: no further frame ends here; the buffer has no room for another line; the next frame is refused, with number,
 // place and size.
-#[derive(Drop)]
+#[derive(Clone, Copy)]
 enum Halt {
     Cut,
     Full,
@@ -160,7 +162,7 @@ enum Halt {
 }
 
 // Where that is, in the bytes walked and in the buffer, and how many frames were accepted.
-#[derive(Drop)]
+#[derive(Clone, Copy)]
 struct Halted {
     at: usize,
     to: usize,
@@ -169,7 +171,7 @@ struct Halted {
 }
 
 // What a line tells of a frame: accepted, with its tag; or refused, with number and place.
-#[derive(Drop)]
+#[derive(Clone, Copy)]
 enum Look {
     Tag(u8),
     Bad(u8, usize),
@@ -294,7 +296,7 @@ fn is_full(why: Halt) -> bool
 }
 
 // Where the lines of all frames stop, with the counts behind them; and whether they stop for want of room.
-#[derive(Drop)]
+#[derive(Clone, Copy)]
 struct Gone {
     at: usize,
     to: usize,
@@ -355,7 +357,7 @@ fn told_frames(
 }
 
 // Why a call over a block came back: the block is used up; the buffer has no room for another line; a step refuses.
-#[derive(Drop)]
+#[derive(Clone, Copy)]
 pub enum Why {
     Used,
     Full,
@@ -363,7 +365,7 @@ pub enum Why {
 }
 
 // What a call leaves: the state; the place in the block to go on from, and the place in the buffer behind the last line put; and why it came back.
-#[derive(Drop)]
+#[derive(Clone, Copy)]
 pub struct Blocked {
     pub state: Walk,
     pub from: usize,

@@ -2,6 +2,8 @@
 //
 // Each takes its fields in order, from place 13 of a window on, and answers the body with the place behind it. A field's answer is taken apart
 // before the next is read, and the first that has no value ends the body: then its fault is answered.
+#![tactic(auto)]
+
 ghost use Rattle.std.specs.Prelude.{◌≡◌, cond};
 ghost use Rattle.format.specs.Ascii.{'A', 'B', 'C', 'D', 'E', 'F', 'I', 'P', 'Q', 'U', 'X'};
 ghost use Rattle.format.specs.Rows.{body_of};

@@ -3,6 +3,8 @@
 //
 // A place is a u8, so that `place + width` cannot wrap; where a number does not fit, nothing is put, so that no caller can break a
 // leaf.
+#![tactic(auto)]
+
 ghost use Rattle.std.specs.Prelude.{◌≡◌, ◌+◌, ◌^◌, ◌<◌, ◌≤◌, length};
 ghost use Rattle.std.proofs.lemmas.List.Edits.{sets};
 ghost use Rattle.format.specs.Utf8.{well_formed};

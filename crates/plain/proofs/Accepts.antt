@@ -97,7 +97,7 @@ module _ (w : List ℕ) {row n : ℕ} (l : Lit w row n) (long : 52 ≤ length w)
       ∙ ap (accepted (get_or w 2 0 ∷ body.0)) l.end
 
   ordinarily : (rd : Reading) → window (ordinary rd) w ≡ accepted values n
-  ordinarily rd = window-there rd w (omega arith) ∙ ap (pre _) (body-in rd)
+  ordinarily rd = window-there rd w (omega arith) ∙ ap (pre (get_or w 2 0 ∷ be (part w 3 2) ∷ be (part w 5 2) ∷ be (part w 7 6) ∷ [])) (body-in rd)
 
   not-strictly : (rd : Reading) → rd.strict ≡ false → window rd w ≡ accepted values n
   not-strictly rd f = window-strictly rd w ∙ rw f (ordinarily rd)

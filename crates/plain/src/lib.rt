@@ -1,6 +1,8 @@
 // The plain messages: those whose bodies are numbers alone, and A and P, of which only side and stock are looked at.
 //
 // Where a run of messages is only counted, most of its time goes into jumps that nobody can foresee: by the tag, and by the side. Here there are none.
+#![tactic(auto)]
+
 ghost use Rattle.std.specs.Prelude.{◌≡◌, get_or};
 ghost use Rattle.plain.specs.Plain.{Table, end_by, plain_of, tight_by, strictly_of};
 

@@ -1,5 +1,7 @@
 // What a step of the walk is to do with a piece, told before the frame's bytes are judged: to refuse, to take the whole piece into the current
 // frame, or to end that frame. It is apart from the step (crate walking), so that its must-fail edits check neither the step nor the reader's code.
+#![tactic(auto)]
+
 ghost use Rattle.std.specs.Prelude.{◌≡◌, ◌<◌, length, get_or};
 ghost use Rattle.walk.specs.Walk.{frame_size, put};
 ghost use Rattle.plan.specs.Plan.{plan_of, PlanHolds};
@@ -7,7 +9,7 @@ ghost use Rattle.plan.specs.Plan.{plan_of, PlanHolds};
 use walk::Walk;
 
 // Refuse, with the number; take the whole piece; end the frame, which has this size, after so many bytes of the piece.
-#[derive(Drop)]
+#[derive(Clone, Copy)]
 pub enum Plan {
     Refuse(u8),
     Take,

@@ -1,4 +1,6 @@
 // A slice plays the reader, handed over in pieces of a given width: trying the window and fetching call each other until there is an answer.
+#![tactic(auto)]
+
 ghost use Rattle.std.specs.Prelude.{◌≡◌, ◌++◌, ◌+◌, ◌-◌, ◌≤◌, length, take, drop};
 ghost use Rattle.play.specs.Play.{portion_of, filled, try_of, fetch_of, play_of};
 
@@ -6,7 +8,7 @@ use format::Reading;
 use stream::{Answer, Stream};
 
 // What a call leaves: the state, the position in the slice, and the answer.
-#[derive(Drop)]
+#[derive(Clone, Copy)]
 pub struct Played {
     pub state: Stream,
     pub at: usize,

@@ -28,7 +28,7 @@ use Rattle.playing.proofs.Turns.{made, room, portion, put_in, fed, turn, onward,
 
 -- reads of any sizes
 abbrev any : Cutting
-any room r n = Unit {0}
+any _ r n = Unit {0}
 
 module _ (rd : Reading) (src : List ℕ) where
   -- what a call comes to, in a run that has answered ms: one message more, or the run's end

@@ -1,4 +1,6 @@
 // Any body, written: it goes to the function of its kind. It is apart from the writer, whose must-fail edits check their whole crate again.
+#![tactic(auto)]
+
 ghost use Rattle.pen.specs.Encode.{PutBody};
 ghost use Rattle.records.specs.Values.{values};
 

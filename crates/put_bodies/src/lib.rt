@@ -1,6 +1,8 @@
 // The bodies, written: one function for each of the 20 kinds, in the order of their tags, and for the two kinds that the later edition adds.
 //
 // Each puts its fields in order, from place 13 on, each where it fits. That the whole row fits is tested once, by the writer.
+#![tactic(auto)]
+
 ghost use Rattle.pen.specs.Encode.{PutBody};
 ghost use Rattle.records.specs.Values.{values};
 ghost use Rattle.put_bodies.specs.Mpids.{PutMpid};

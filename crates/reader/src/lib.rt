@@ -1,5 +1,7 @@
 // parse_message: the one judgement of a message. The header first, then the body that the tag names; a strict reading then asks whether a text strays that
 // stands before anything refused.
+#![tactic(auto)]
+
 ghost use Rattle.std.specs.Prelude.{◌≡◌, cond, ◌&&◌, leb};
 ghost use Rattle.format.specs.Ascii.{'O', 'h'};
 ghost use Rattle.format.specs.Layout.{day};
@@ -11,7 +13,7 @@ use format::{Edition, Fault, HeaderRead, Reading};
 use records::{BodyRead, Message};
 
 // What reading a window answers: a message and the bytes that it consumed; not all of it is there; refused, with number and place.
-#[derive(Drop)]
+#[derive(Clone, Copy)]
 pub enum Window {
     Message(Message, usize),
     Incomplete,

@@ -1,5 +1,7 @@
 // The messages: Message, Body with its 20 kinds and their structs, named as in the Rust, and the two kinds that the later edition adds. A text is
 // kept as the number that its bytes are, a price as the raw number that it is on the wire.
+#![tactic(auto)]
+
 use codes::{
     CrossType, EtpFlag, EventCode, FinancialStatus, Flag, HaltAction, ImbalanceDirection,
     InterestFlag, IpoReleaseQualifier, IssueClassification, IssueSubType, LevelBreached,
@@ -21,14 +23,14 @@ pub type Price4 = u32;
 pub type Price8 = u64;
 
 // The attribution of an add order: F has one, A has none.
-#[derive(Drop)]
+#[derive(Clone, Copy)]
 pub enum Mpid {
     Absent,
     Present(Text4),
 }
 
 // A and F: a new order.
-#[derive(Drop)]
+#[derive(Clone, Copy)]
 pub struct AddOrder {
     pub reference: u64,
     pub side: Side,
@@ -39,7 +41,7 @@ pub struct AddOrder {
 }
 
 // I: the net order imbalance before a cross.
-#[derive(Drop)]
+#[derive(Clone, Copy)]
 pub struct ImbalanceIndicator {
     pub paired_shares: u64,
     pub imbalance_shares: u64,
@@ -54,7 +56,7 @@ pub struct ImbalanceIndicator {
 }
 
 // K: when the quoting of a new stock begins.
-#[derive(Drop)]
+#[derive(Clone, Copy)]
 pub struct IpoQuotingPeriod {
     pub stock: Text8,
     // seconds since midnight
@@ -64,7 +66,7 @@ pub struct IpoQuotingPeriod {
 }
 
 // L: what a participant is for a stock.
-#[derive(Drop)]
+#[derive(Clone, Copy)]
 pub struct MarketParticipantPosition {
     pub mpid: Text4,
     pub stock: Text8,
@@ -74,14 +76,14 @@ pub struct MarketParticipantPosition {
 }
 
 // N: which sides of a stock have retail price improvement.
-#[derive(Drop)]
+#[derive(Clone, Copy)]
 pub struct RetailPriceImprovementIndicator {
     pub stock: Text8,
     pub interest_flag: InterestFlag,
 }
 
 // P: a trade against an order that is not displayed.
-#[derive(Drop)]
+#[derive(Clone, Copy)]
 pub struct NonCrossTrade {
     pub reference: u64,
     pub side: Side,
@@ -92,7 +94,7 @@ pub struct NonCrossTrade {
 }
 
 // Q: a cross.
-#[derive(Drop)]
+#[derive(Clone, Copy)]
 pub struct CrossTrade {
     pub shares: u64,
     pub stock: Text8,
@@ -102,7 +104,7 @@ pub struct CrossTrade {
 }
 
 // R: a stock and what is known of it at the start of the day.
-#[derive(Drop)]
+#[derive(Clone, Copy)]
 pub struct StockDirectory {
     pub stock: Text8,
     pub market_category: MarketCategory,
@@ -122,7 +124,7 @@ pub struct StockDirectory {
 }
 
 // U: an order takes the place of another.
-#[derive(Drop)]
+#[derive(Clone, Copy)]
 pub struct ReplaceOrder {
     pub old_reference: u64,
     pub new_reference: u64,
@@ -131,7 +133,7 @@ pub struct ReplaceOrder {
 }
 
 // O, of the later edition: the prices of a stock that is listed directly and raises capital.
-#[derive(Drop)]
+#[derive(Clone, Copy)]
 pub struct DirectListing {
     pub stock: Text8,
     // whether it may open for trading
@@ -146,7 +148,7 @@ pub struct DirectListing {
 }
 
 // What a message says, by its kind. A and F share one. The last two are of the later edition.
-#[derive(Drop)]
+#[derive(Clone, Copy)]
 pub enum Body {
     AddOrder(AddOrder),
     Breach(LevelBreached),
@@ -215,7 +217,7 @@ pub enum Body {
 }
 
 // A whole message: its header, without the length, and its body.
-#[derive(Drop)]
+#[derive(Clone, Copy)]
 pub struct Message {
     pub tag: u8,
     pub stock_locate: u16,
@@ -226,7 +228,7 @@ pub struct Message {
 }
 
 // What reading a body answers: the body and the place behind it, or why there is none.
-#[derive(Drop)]
+#[derive(Clone, Copy)]
 pub enum BodyRead {
     Got(Body, usize),
     No(Fault),

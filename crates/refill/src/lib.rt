@@ -1,4 +1,6 @@
 // The calls of a stream that read no window: make room, told how many bytes came, and told that a read failed. What they answer is defined in the specs of stream.
+#![tactic(auto)]
+
 ghost use Rattle.std.specs.Prelude.{◌≡◌, ◌≤◌, length};
 ghost use Rattle.stream.specs.Room.{moved, room_of, room_buffer};
 ghost use Rattle.stream.specs.Told.{told_of, failed_of};

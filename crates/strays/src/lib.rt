@@ -1,5 +1,7 @@
 // Texts read strictly: where one strays from the bytes 20 to 7e. The reader asks it of a strict reading alone, once a message, behind the body's
 // answer: so no body and no leaf knows of it.
+#![tactic(auto)]
+
 ghost use Rattle.std.specs.Prelude.{◌≡◌, cond, ◌&&◌, ◌+◌, ◌≤◌, min, leb, eqb, length};
 ghost use Rattle.format.specs.Layout.{part, outside, strays, first_stray};
 ghost use Rattle.format.specs.Strict.{stray_of};

@@ -1,5 +1,7 @@
 // The stream: its state, what its calls answer, and next, on a state and the 8,192-byte buffer that is lent beside it. The state is taken by value and given back
 // with the answer. The other calls, which read no window, are those of the crate refill.
+#![tactic(auto)]
+
 ghost use Rattle.std.specs.Prelude.{◌≡◌};
 ghost use Rattle.stream.specs.State.{fresh_state, refuses, marks, consumed_of};
 ghost use Rattle.stream.specs.Next.{next_of};
@@ -10,7 +12,7 @@ use records::Message;
 
 // The state of a stream. The window is the part of the buffer from start to end; the counts are of bytes told, of read calls and of messages answered.
 // The mark is set by a refusal with 1 to 5, 10 or 11, and a message clears it.
-#[derive(Drop)]
+#[derive(Clone, Copy)]
 pub struct Stream {
     pub start: usize,
     pub end: usize,
@@ -21,7 +23,7 @@ pub struct Stream {
 }
 
 // What a call answers: a message; the window wants bytes; ready, since there is room or bytes came; nothing more; refused, with number and place.
-#[derive(Drop)]
+#[derive(Clone, Copy)]
 pub enum Answer {
     Message(Message),
     Wants,
@@ -31,7 +33,7 @@ pub enum Answer {
 }
 
 // The state behind a call, and what the call answers.
-#[derive(Drop)]
+#[derive(Clone, Copy)]
 pub struct Step {
     pub state: Stream,
     pub answer: Answer,

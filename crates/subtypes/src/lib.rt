@@ -1,5 +1,7 @@
 // The issue subtypes, decided from their table, which stands in table.rt: the row of a code, and the code of a row. A code's two bytes are one number here,
 // the first its high byte.
+#![tactic(auto)]
+
 ghost use Rattle.std.specs.Prelude.{◌≡◌, get_or};
 ghost use Rattle.format.specs.Codes.{subtypes};
 ghost use Rattle.format.specs.Layout.{be};

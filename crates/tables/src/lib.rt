@@ -5,6 +5,8 @@
 //
 // A table that is indexed where it is used is built anew on the stack at each use, so what is likely is decided by constants that are computed
 // from the tables when the program is compiled, and only a byte that is no code of its set is looked up. The tables stay the one source.
+#![tactic(auto)]
+
 ghost use Rattle.std.specs.Prelude.{◌≡◌, cond};
 ghost use Rattle.format.specs.Codes.{side, yes_no, trading_state, direction, imbalance_cross, qualifier, maker_mode, participant_state, interest, cross, category, status, class, authenticity, flag, tier, etp_flag, event, level, action, market, halt};
 ghost use Rattle.format.specs.Layout.{member, code, field, placed, fine, wrong};

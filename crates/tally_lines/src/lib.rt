@@ -1,4 +1,6 @@
 // The lines of `tally`, put into a lent buffer.
+#![tactic(auto)]
+
 ghost use Rattle.std.specs.Prelude.{◌≡◌, ◌+◌, ◌≤◌, length};
 ghost use Rattle.text.specs.Decimal.{Wrote, Puts};
 ghost use Rattle.stream.specs.Meaning.{number_of, place_of};

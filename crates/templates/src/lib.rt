@@ -1,4 +1,6 @@
 // Lines by templates: text with places for values. The text of a template is defined in specs/Templates.antt.
+#![tactic(auto)]
+
 ghost use Rattle.std.specs.Prelude.{◌≡◌, ◌+◌, ◌-◌, ◌*◌, ◌≤◌, length, get_or, drop};
 ghost use Rattle.text.specs.Decimal.{decimal_of, Wrote, Puts};
 ghost use Rattle.templates.specs.Templates.{
@@ -191,7 +193,7 @@ fn named(table: &[u8], start: usize, v: u64) -> usize
 }
 
 // Where the table and the output buffer stand.
-#[derive(Drop)]
+#[derive(Clone, Copy)]
 struct Mark {
     from: usize,
     at: usize,

@@ -1,5 +1,7 @@
 // Text put into a lent buffer: each function puts its text at a place, if there is room for it, and answers the
 // place behind it.
+#![tactic(auto)]
+
 ghost use Rattle.std.specs.Prelude.{◌+◌, ◌≤◌, ◌<◌, [], ◌∷◌, ◌≡◌, length};
 ghost use Rattle.text.specs.Decimal.{one_of, two_of, four_of, eight_of, decimal_of, behind, Wrote, Puts};
 

@@ -1,5 +1,7 @@
 // The round trips: the reader's call and the writer's, one after the other, by one reading. The theorems stand in proofs/ and speak of the
 // definitions; here is what they say of the calls.
+#![tactic(auto)]
+
 ghost use Rattle.std.specs.Prelude.{◌≡◌};
 ghost use Rattle.reader.specs.Window.{window_of};
 ghost use Rattle.trips.specs.Trips.{written_in, again_of, again_in, ReadBack, WrittenBack};
@@ -10,7 +12,7 @@ use records::Message;
 use writer::Written;
 
 // What reading and then writing answers: what the writer said of the message; or that it is not all there, or refused, with number and place.
-#[derive(Drop)]
+#[derive(Clone, Copy)]
 pub enum Again {
     Wrote(Written),
     NotThere,

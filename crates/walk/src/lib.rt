@@ -1,5 +1,7 @@
 // The walk by length fields: its state and its answers, the frame rule, the held bytes, and when a step refuses. A frame is two length bytes, giving L,
 // then L bytes. The step itself stands in the crate walking.
+#![tactic(auto)]
+
 ghost use Rattle.std.specs.Prelude.{◌≡◌, min};
 ghost use Rattle.reader.specs.Window.{window_of};
 ghost use Rattle.walk.specs.Walk.{size_by, verdict_of, judge_of, zero_from, sound_of, countable, ready_of, put, fresh_of};
@@ -10,7 +12,7 @@ use records::Message;
 
 // The state of a walk: offset of the current frame, its bytes so far, the first 52 of these and then zeros, and how many frames ended, and were
 // accepted, before it. The reading is chosen at the start: no step changes it, so one walk has one edition.
-#[derive(Drop)]
+#[derive(Clone, Copy)]
 pub struct Walk {
     pub offset: u64,
     pub seen: usize,
@@ -21,14 +23,14 @@ pub struct Walk {
 }
 
 // The answer on one frame: its message, or number and place.
-#[derive(Drop)]
+#[derive(Clone, Copy)]
 pub enum Verdict {
     Accepted(Message),
     Bad(u8, usize),
 }
 
 // What a step answers: a frame that ended, with its offset, its size and the answer on it; the piece is used up; 30 or 33.
-#[derive(Drop)]
+#[derive(Clone, Copy)]
 pub enum Answer {
     Frame {
         offset: u64,
@@ -40,7 +42,7 @@ pub enum Answer {
 }
 
 // What a step leaves: the state, how many bytes of the piece it used, and its answer.
-#[derive(Drop)]
+#[derive(Clone, Copy)]
 pub struct Stepped {
     pub state: Walk,
     pub used: usize,

@@ -1,6 +1,8 @@
 // One step of the walk over a piece of a recording, from a state to the next. What it comes to is `own_step` (crates/walk/specs/Walk.antt).
 //
 // Arithmetic and tests stand in functions over numbers and states: a function that answers a frame's message is costly to check at each line.
+#![tactic(auto)]
+
 ghost use Rattle.std.specs.Prelude.{◌≡◌, cond, ◌+◌, ◌*◌, ◌^◌, ◌≤◌, ◌<◌, length, eqb};
 ghost use Rattle.reader.specs.Window.{window_of};
 ghost use Rattle.walk.specs.declared.Verdict.{Verdict};

@@ -1,5 +1,7 @@
 // The writer: a record goes to the front of a lent buffer, and later bytes stay. What is refused, in which order, and what the bytes are, stands
 // in specs/Writing; on a refusal the buffer is as it was.
+#![tactic(auto)]
+
 ghost use Rattle.std.specs.Prelude.{◌≡◌, ◌&&◌, ◌∷◌, [], ◌^◌, ◌<◌, length, eqb};
 ghost use Rattle.format.specs.Ascii.{'I'};
 ghost use Rattle.format.specs.Rows.{header};
@@ -14,7 +16,7 @@ use records::{Body, Message, Mpid};
 
 // Written, and how many bytes; or refused: 40 tag and body kind disagree, or the reading has no such tag, 41 timestamp of 2^48 or more, 42 a text
 // that is not UTF-8, 43 Intraday in an imbalance record, 44 the buffer is shorter than 2 + size.
-#[derive(Drop)]
+#[derive(Clone, Copy)]
 pub enum Written {
     Done(usize),
     Refused(u8),
@@ -22,7 +24,7 @@ pub enum Written {
 
 // What is looked at before a body is written: the tag that it belongs to, whether its texts are UTF-8, whether it is an imbalance record with
 // the cross Intraday.
-#[derive(Drop)]
+#[derive(Clone, Copy)]
 pub struct Checked {
     pub tag: u8,
     pub texts: bool,

@@ -1,0 +1,10 @@
+-- `format::be_u16` meets its contract.
+use Rattle.format.specs.Layout.{num}
+use Rattle.format.proofs.Fields.{field-short, field-num}
+use Rattle.format.proofs.be_u16.Goals as goal
+
+pub returns-then-s-at : goal.returns-then-s-at
+returns-then-s-at c = field-short (num 2) _ _ c.if-s-at.true
+
+pub returns : goal.returns
+returns c = field-num 2 _ _ c.if-s-at.false c.be2.ensures.0

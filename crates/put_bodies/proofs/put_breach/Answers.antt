@@ -1,0 +1,14 @@
+-- `put_bodies::put_breach` meets its contract.
+use Rattle.pen.specs.Encode.{layout}
+use Rattle.pen.proofs.Puts.{body-puts, end, ◌⨾◌, ◌by◌⨾◌}
+use Rattle.records.specs.declared.Body.TheVariants as Body·
+use Rattle.records.specs.Values.{values}
+use Rattle.put_bodies.proofs.put_breach.Goals as goal
+
+pub returns : goal.returns
+unfolding layout
+returns c =
+    let a = c.args in
+    body-puts a.buf.now (values (Body·.Breach a.x))
+    ((c.set_u8.ensures.buf_after, c.set_u8.ensures.v_bound) by c.level_code.ensures
+    ⨾ end)

@@ -1,0 +1,14 @@
+-- `put_bodies::put_broken_trade` meets its contract.
+use Rattle.pen.specs.Encode.{layout}
+use Rattle.pen.proofs.Puts.{body-puts, end, ◌⨾◌}
+use Rattle.records.specs.declared.Body.TheVariants as Body·
+use Rattle.records.specs.Values.{values}
+use Rattle.put_bodies.proofs.put_broken_trade.Goals as goal
+
+pub returns : goal.returns
+unfolding layout
+returns c =
+    let a = c.args in
+    body-puts a.buf.now (values (Body·.BrokenTrade a.match_number))
+    ((c.set_u64.ensures.buf_after, c.set_u64.ensures.v_bound)
+    ⨾ end)

@@ -1,0 +1,27 @@
+-- `put_bodies::put_direct_listing` meets its contract.
+use Rattle.pen.specs.Encode.{layout}
+use Rattle.pen.proofs.Puts.{body-puts, length-body, end, ◌⨾◌, ◌by◌⨾◌}
+use Rattle.records.specs.declared.Body.TheVariants as Body·
+use Rattle.records.specs.Values.{values}
+use Rattle.put_bodies.proofs.put_direct_listing.Goals as goal
+
+pub returns : goal.returns
+unfolding layout
+returns c =
+    let a = c.args in
+    body-puts a.buf.now (values (Body·.DirectListing a.x))
+    ((c.set_u64.ensures.buf_after, c.set_u64.ensures.v_bound)
+    ⨾ (c.set_u8.ensures.buf_after, c.set_u8.ensures.v_bound) by c.yes_no_code.ensures
+    ⨾ (c.set_u32.ensures.buf_after, c.set_u32.ensures.v_bound)
+    ⨾ (c.set_u32-2.ensures.buf_after, c.set_u32-2.ensures.v_bound)
+    ⨾ (c.set_u32-3.ensures.buf_after, c.set_u32-3.ensures.v_bound)
+    ⨾ (c.set_u64-2.ensures.buf_after, c.set_u64-2.ensures.v_bound)
+    ⨾ (c.set_u32-4.ensures.buf_after, c.set_u32-4.ensures.v_bound)
+    ⨾ (c.set_u32-5.ensures.buf_after, c.set_u32-5.ensures.v_bound)
+    ⨾ end)
+
+pub shape_of-buf : goal.shape_of-buf
+shape_of-buf c =
+    let a =
+    c.args in
+    length-body a.buf.now (values (Body·.DirectListing a.x)) (returns c)

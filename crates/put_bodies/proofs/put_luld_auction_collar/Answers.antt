@@ -1,0 +1,18 @@
+-- `put_bodies::put_luld_auction_collar` meets its contract.
+use Rattle.pen.specs.Encode.{layout}
+use Rattle.pen.proofs.Puts.{body-puts, end, ◌⨾◌}
+use Rattle.records.specs.declared.Body.TheVariants as Body·
+use Rattle.records.specs.Values.{values}
+use Rattle.put_bodies.proofs.put_luld_auction_collar.Goals as goal
+
+pub returns : goal.returns
+unfolding layout
+returns c =
+    let a = c.args in
+    body-puts a.buf.now (values (Body·.LULDAuctionCollar a.stock a.ref_price a.upper_price a.lower_price a.extension))
+    ((c.set_u64.ensures.buf_after, c.set_u64.ensures.v_bound)
+    ⨾ (c.set_u32.ensures.buf_after, c.set_u32.ensures.v_bound)
+    ⨾ (c.set_u32-2.ensures.buf_after, c.set_u32-2.ensures.v_bound)
+    ⨾ (c.set_u32-3.ensures.buf_after, c.set_u32-3.ensures.v_bound)
+    ⨾ (c.set_u32-4.ensures.buf_after, c.set_u32-4.ensures.v_bound)
+    ⨾ end)

@@ -1,0 +1,16 @@
+-- `put_bodies::put_operational_halt` meets its contract.
+use Rattle.pen.specs.Encode.{layout}
+use Rattle.pen.proofs.Puts.{body-puts, end, ◌⨾◌, ◌by◌⨾◌}
+use Rattle.records.specs.declared.Body.TheVariants as Body·
+use Rattle.records.specs.Values.{values}
+use Rattle.put_bodies.proofs.put_operational_halt.Goals as goal
+
+pub returns : goal.returns
+unfolding layout
+returns c =
+    let a = c.args in
+    body-puts a.buf.now (values (Body·.OperationalHalt a.stock a.market_code a.action))
+    ((c.set_u64.ensures.buf_after, c.set_u64.ensures.v_bound)
+    ⨾ (c.set_u8.ensures.buf_after, c.set_u8.ensures.v_bound) by c.market_code.ensures
+    ⨾ (c.set_u8-2.ensures.buf_after, c.set_u8-2.ensures.v_bound) by c.halt_code.ensures
+    ⨾ end)

@@ -1,0 +1,15 @@
+-- `put_bodies::put_order_cancelled` meets its contract.
+use Rattle.pen.specs.Encode.{layout}
+use Rattle.pen.proofs.Puts.{body-puts, end, ◌⨾◌}
+use Rattle.records.specs.declared.Body.TheVariants as Body·
+use Rattle.records.specs.Values.{values}
+use Rattle.put_bodies.proofs.put_order_cancelled.Goals as goal
+
+pub returns : goal.returns
+unfolding layout
+returns c =
+    let a = c.args in
+    body-puts a.buf.now (values (Body·.OrderCancelled a.reference a.cancelled))
+    ((c.set_u64.ensures.buf_after, c.set_u64.ensures.v_bound)
+    ⨾ (c.set_u32.ensures.buf_after, c.set_u32.ensures.v_bound)
+    ⨾ end)

@@ -1,0 +1,15 @@
+-- `put_bodies::put_reg_sho_restriction` meets its contract.
+use Rattle.pen.specs.Encode.{layout}
+use Rattle.pen.proofs.Puts.{body-puts, end, ◌⨾◌, ◌by◌⨾◌}
+use Rattle.records.specs.declared.Body.TheVariants as Body·
+use Rattle.records.specs.Values.{values}
+use Rattle.put_bodies.proofs.put_reg_sho_restriction.Goals as goal
+
+pub returns : goal.returns
+unfolding layout
+returns c =
+    let a = c.args in
+    body-puts a.buf.now (values (Body·.RegShoRestriction a.stock a.action))
+    ((c.set_u64.ensures.buf_after, c.set_u64.ensures.v_bound)
+    ⨾ (c.set_u8.ensures.buf_after, c.set_u8.ensures.v_bound) by c.action_code.ensures
+    ⨾ end)

@@ -1,0 +1,9 @@
+-- `strays::either` meets its contract.
+use borrow.Author.Tests.{eq-eqb, ne_eqb}
+use Rattle.strays.proofs.either.Goals as goal
+
+pub returns-then-p-eq0 : goal.returns-then-p-eq0
+returns-then-p-eq0 c = rw (eq-eqb _ 0 c.if-p-eq0.true)
+
+pub returns-else-p-eq0 : goal.returns-else-p-eq0
+returns-else-p-eq0 c = rw (ne_eqb _ 0 c.if-p-eq0.false)

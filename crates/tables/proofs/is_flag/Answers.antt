@@ -1,0 +1,14 @@
+-- `tables::is_flag` meets its contract.
+use mathlib.Core.Path.{refl}
+use mathlib.Core.List.{[], ◌∷◌}
+use Rattle.format.specs.Ascii.{'␣', 'N', 'Y'}
+use Rattle.format.specs.Codes.{flag}
+use Rattle.tables.proofs.Codes.{one_of}
+use Rattle.tables.proofs.is_flag.Goals as goal
+
+pub returns-in-89 : goal.returns-in-89
+unfolding flag
+returns-in-89 c = one_of flag ('␣' ∷ 'N' ∷ 'Y' ∷ []) _ tt c.in-89.is
+
+pub returns-in_default : goal.returns-in_default
+returns-in_default c = c.legal.ensures 14 refl

@@ -1,0 +1,12 @@
+-- `tables::maker_mode_at` meets its contract.
+use mathlib.Core.Path.{refl}
+use Rattle.format.specs.Codes.{maker_mode}
+use Rattle.format.specs.Layout.{code}
+use Rattle.tables.proofs.Codes.{code-short, code_got}
+use Rattle.tables.proofs.maker_mode_at.Goals as goal
+
+pub returns-in_default : goal.returns-in_default
+returns-in_default c = code-short (code maker_mode) _ _ refl c.be_u8-f.ensures c.in_default.is
+
+pub returns : goal.returns
+returns c = code_got maker_mode _ _ c.be_u8-f.ensures c.in-Got.is c.is_maker_mode.ensures c.judged.ensures

@@ -1,0 +1,16 @@
+-- `templates::plain` meets its contract.
+use borrow.Author.Tests.{le-leb, lt-leb}
+use Rattle.templates.specs.Templates.{stays}
+use Rattle.templates.proofs.plain.Goals as goal
+
+pub returns-then-b-lt32 : goal.returns-then-b-lt32
+unfolding stays
+returns-then-b-lt32 c = rw (lt-leb 32 _ c.if-b-lt32.true)
+
+pub returns-then-b-gt126 : goal.returns-then-b-gt126
+unfolding stays
+returns-then-b-gt126 c = rw (le-leb 32 _ c.if-b-lt32.false, lt-leb _ 126 c.if-b-gt126.true)
+
+pub returns : goal.returns
+unfolding stays
+returns c = rw (le-leb 32 _ c.if-b-lt32.false, le-leb _ 126 c.if-b-gt126.false)
