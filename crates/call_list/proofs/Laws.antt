@@ -5,22 +5,15 @@ use mathlib.Core.List.{List, [], ◌∷◌, ◌++◌}
 use mathlib.Core.Path.{◌≡◌, refl, sym, ap, ◌∙◌}
 use native.Mathlib.Numerals.{add-one}
 use native.Mathlib.Omega.{arith}
-use lib.ListN.{length, get_or, take, drop, set, length-append, length-drop}
+use borrow.Author.Tests.{lt-leb, le-leb, lt-ltb, le-ltb}
+use lib.ListN.{length, get_or, take, drop, set, length-append}
 use lib.Seq.{take-suc, take-suc-set, drop-cons, set_at, append_snoc}
 use Rattle.format.specs.Layout.{field, num}
-use Rattle.format.specs.Meaning.{fault_m}
-use Rattle.format.specs.declared.Fault.{Fault}
-use Rattle.format.specs.declared.Fault.TheVariants.{Short, Refused}
 use Rattle.text.specs.Decimal.{decimal_of, Wrote}
 use Rattle.text.proofs.Laws.{wrote-long, wrote-append}
-use Rattle.call_list.specs.Calls.{value_in, asks_of, byte_at, made_of, weight_of, spaced_of}
+use Rattle.call_list.specs.Calls.{value_in, asks_of, fill_of, byte_at, made_of, weight_of, spaced_of}
 
 -- ---- the list
-
--- a number that is not whole is 0
-pub fault-value : (e : Fault) → value_in (fault_m e) ≡ 0
-fault-value Short = refl
-fault-value (Refused n p) = refl
 
 pub asks-more : (t v : List ℕ) (k : ℕ) → k < length v → take k v ≡ asks_of t k → take (k + 1) (set v k (value_in (field (num 8) t (8 * k)))) ≡ asks_of t (k + 1)
 unfolding asks_of
@@ -32,10 +25,6 @@ module _ (f p : ℕ) (e : List ℕ) where
   made-count zero = refl
   made-count (suc n) = rw length-append (omega (arith, made-count n))
 
-  -- the room stays as long
-  pub made-long : (r₀ : List ℕ) (i : ℕ) → i ≤ length r₀ → length (made_of f p e i ++ drop i r₀) ≡ length r₀
-  made-long r₀ i h = rw (length-append, length-drop, made-count) (omega arith)
-
   pub made_more : (r₀ r : List ℕ) (i : ℕ) → i < length r₀ → r ≡ made_of f p e i ++ drop i r₀ → set r i (byte_at f p e i) ≡ made_of f p e (i + 1) ++ drop (i + 1) r₀
   unfolding made_of
   made_more r₀ r i h q =
@@ -43,6 +32,20 @@ module _ (f p : ℕ) (e : List ℕ) where
       let x = byte_at f p e i in
       let ys = drop (suc i) r₀ in
       rw (q, drop-cons r₀ i 0 h, add-one i) (set_at m (get_or r₀ i 0) ys x i (made-count i) ∙ sym (append_snoc m x ys))
+
+-- the byte at a place: before the explicit bytes, one of them, and behind them
+module _ (f p : ℕ) (e : List ℕ) (i : ℕ) where
+  pub byte_before : i < p → byte_at f p e i ≡ fill_of f i
+  unfolding byte_at
+  byte_before h = rw (lt-leb p i h)
+
+  pub byte-explicit : p ≤ i → i - p < length e → byte_at f p e i ≡ get_or e (i - p) 0
+  unfolding byte_at
+  byte-explicit h k = rw (le-leb p i h, lt-ltb i (p + length e) (omega arith))
+
+  pub byte-behind : p ≤ i → length e ≤ i - p → byte_at f p e i ≡ fill_of f i
+  unfolding byte_at
+  byte-behind h k = rw (le-leb p i h, le-ltb i (p + length e) (omega arith))
 
 -- ---- the sum
 

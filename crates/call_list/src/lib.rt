@@ -2,12 +2,12 @@
 // asks for, is defined in specs/Calls.antt.
 #![tactic(auto)]
 
-ghost use Rattle.std.specs.Prelude.{◌+◌, ◌*◌, ◌%◌, ◌≤◌, min, ◌∷◌, ◌++◌, ◌≡◌, length, take, drop};
+ghost use Rattle.std.specs.Prelude.{◌+◌, ◌*◌, ◌%◌, ◌≤◌, ◌∷◌, ◌++◌, ◌≡◌, length, take, drop};
 ghost use Rattle.format.specs.Layout.{field, num};
 ghost use Rattle.text.specs.Decimal.{decimal_of, Wrote, Puts};
 ghost use Rattle.call_list.specs.Calls.{value_in, asks_of, fill_of, byte_at, made_of, bytes_a, bytes_b, asked_of, reading_for, weight_of, spaced_of};
 
-use format::{Edition, Num64, Reading};
+use format::{Edition, Reading};
 
 // ---- the list
 
@@ -15,51 +15,32 @@ use format::{Edition, Num64, Reading};
 pub fn first(s: &[u8], n: usize) -> &[u8]
     ensures { result.now ≡ take n s.now }
 {
-    if n > s.len() {
-        return s;
-    }
-    &s[..n]
+    &s[..n.min(s.len())]
 }
 
 // What stands behind them.
 fn rest(s: &[u8], n: usize) -> &[u8]
     ensures { result.now ≡ drop n s.now }
 {
-    let len = s.len();
-    if n > len {
-        return &s[len..];
-    }
-    &s[n..]
+    &s[n.min(s.len())..]
 }
 
 // The number at a place, 0 where not all of its bytes are there.
 fn number(t: &[u8], place: u8) -> u64
     ensures { result ≡ value_in (field (num 8) t.now place) }
 {
-    match format::be_u64(t, place) {
-        Num64::Got(n) => n,
-        Num64::No(_) => 0,
-    }
+    format::number_at(t, place).unwrap_or(0)
 }
 
 // The numbers of the call that t begins with.
 fn asks(t: &[u8]) -> [u64; 17]
     ensures { result ≡ asks_of t.now 17 }
 {
-    let mut v = [0u64; 17];
-    let mut k = 0;
-    while k < 17 {
-        v[k] = number(t, (8 * k) as u8);
-        k += 1;
+    let mut v = [0; 17];
+    for (k, x) in v.iter_mut().enumerate() {
+        *x = number(t, (8 * k) as u8);
     }
     v
-}
-
-fn as_byte(x: u64) -> u8
-    requires { x ≤ 255 }
-    ensures { result ≡ x }
-{
-    x as u8
 }
 
 // The fill's byte at a place.
@@ -69,8 +50,7 @@ fn fill_byte(fill: u64, i: usize) -> u8
     if fill == 0 {
         return 0;
     }
-    let k = (i % 251) as u64;
-    as_byte((k + fill % 256) % 256)
+    (((i % 251) as u64 + fill % 256) % 256) as u8
 }
 
 // The byte at a place: an explicit one, or the fill's.
@@ -80,29 +60,19 @@ fn byte(fill: u64, place: usize, explicit: &[u8], i: usize) -> u8
     if i < place {
         return fill_byte(fill, i);
     }
-    let k = i - place;
-    if k < explicit.len() {
-        return explicit[k];
-    }
-    fill_byte(fill, i)
-}
-
-// Makes the first n bytes of a room.
-fn make(fill: u64, place: usize, explicit: &[u8], room: &mut [u8], n: usize)
-    requires { n ≤ length room.old }
-    ensures { room.new ≡ made_of fill place explicit.now n ++ drop n room.old }
-{
-    let mut i = 0;
-    while i < n {
-        room[i] = byte(fill, place, explicit, i);
-        i += 1;
+    match explicit.get(i - place) {
+        Some(b) => *b,
+        None => fill_byte(fill, i),
     }
 }
 
-fn least(a: usize, b: usize) -> usize
-    ensures { result ≡ min a b }
+// Makes the bytes of a room.
+fn make(fill: u64, place: usize, explicit: &[u8], room: &mut [u8])
+    ensures { room.new ≡ made_of fill place explicit.now (length room.old) }
 {
-    if a < b { a } else { b }
+    for (i, x) in room.iter_mut().enumerate() {
+        *x = byte(fill, place, explicit, i);
+    }
 }
 
 // What a call asks for: its numbers, how many bytes A and B have, and the place behind it.
@@ -123,15 +93,34 @@ pub fn call_at(list: &[u8], at: usize, a: &mut [u8], b: &mut [u8]) -> Asked
 {
     let t = rest(list, at);
     let v = asks(t);
+    let [
+        ..,
+        len_a,
+        fill_a,
+        place_a,
+        count_a,
+        len_b,
+        fill_b,
+        place_b,
+        count_b,
+    ] = v;
     let from_a = rest(t, 136);
-    let count_a = v[12] as usize;
-    let from_b = rest(from_a, count_a);
-    let count_b = v[16] as usize;
-    let from_next = rest(from_b, count_b);
-    let na = least(v[9] as usize, a.len());
-    let nb = least(v[13] as usize, b.len());
-    make(v[10], v[11] as usize, first(from_a, count_a), a, na);
-    make(v[14], v[15] as usize, first(from_b, count_b), b, nb);
+    let from_b = rest(from_a, count_a as usize);
+    let from_next = rest(from_b, count_b as usize);
+    let na = a.len().min(len_a as usize);
+    let nb = b.len().min(len_b as usize);
+    make(
+        fill_a,
+        place_a as usize,
+        first(from_a, count_a as usize),
+        &mut a[..na],
+    );
+    make(
+        fill_b,
+        place_b as usize,
+        first(from_b, count_b as usize),
+        &mut b[..nb],
+    );
     Asked {
         v,
         na,
@@ -151,40 +140,29 @@ pub fn which(n: u64) -> u64
 pub fn reading(n: u64) -> Reading
     ensures { result ≡ reading_for n }
 {
-    let strict = n >= 200;
-    if n / 100 % 2 == 0 {
-        return Reading {
-            edition: Edition::Old,
-            strict,
-        };
-    }
     Reading {
-        edition: Edition::Later,
-        strict,
+        edition: if n / 100 % 2 == 0 {
+            Edition::Old
+        } else {
+            Edition::Later
+        },
+        strict: n >= 200,
     }
 }
 
 // ---- the line
 
-fn wide(x: u8) -> u64
-    ensures { (result ≡ x) × (result ≤ 255) }
-{
-    x as u64
-}
-
 // The sum of bytes, mod 2^32: each counts, one more than it is, as often as there are bytes from it on.
 pub fn sum(b: &[u8]) -> u64
     ensures { result ≡ weight_of b.now % 4294967296 }
 {
-    let mut once = 0;
-    let mut all = 0;
-    let mut i = 0;
-    while i < b.len() {
-        once = (once + wide(b[i]) + 1) % 4294967296;
-        all = (all + once) % 4294967296;
-        i += 1;
+    let mut once = 0u32;
+    let mut all = 0u32;
+    for x in b {
+        once = once.wrapping_add(u32::from(*x) + 1);
+        all = all.wrapping_add(once);
     }
-    all
+    u64::from(all)
 }
 
 // A number behind a space.
@@ -203,10 +181,8 @@ fn all_spaced(v: &[u64], out: &mut [u8], at0: usize) -> usize
     ensures { Wrote (spaced_of v.now) out.old at0 out.new result }
 {
     let mut at = at0;
-    let mut k = 0;
-    while k < v.len() {
-        at = spaced(v[k], out, at);
-        k += 1;
+    for n in v {
+        at = spaced(*n, out, at);
     }
     at
 }
@@ -215,10 +191,7 @@ fn all_spaced(v: &[u64], out: &mut [u8], at0: usize) -> usize
 pub fn numbers(v: &[u64], out: &mut [u8], at: usize) -> usize
     ensures { Puts (21 * length v.now) (spaced_of v.now) out.old at out.new result }
 {
-    if at > out.len() {
-        return at;
-    }
-    if (out.len() - at) / 21 < v.len() {
+    if at > out.len() || (out.len() - at) / 21 < v.len() {
         return at;
     }
     all_spaced(v, out, at)

@@ -1,65 +1,15 @@
-// Each call of the stream and the playing slice, by value or over a lent state, its answer as numbers. Who holds a message by value is costly to check, so that
-// is done in functions of one call.
+// Each call of the stream and the playing slice, by value or over a lent state, its answer as numbers. Who holds a message by value is costly to check, so each
+// is a function of its own.
 use flat::Flat;
 use format::Reading;
 use play::Played;
 use stream::{Step, Stream};
 
-// The numbers of the stream's calls; told of a failed read is the one behind them.
-const NEXT: u64 = 3;
-
-const MAKE_ROOM: u64 = 4;
-
-const TOLD: u64 = 5;
-
-fn by_value(which: u64, s: Stream, a: &mut [u8], n: usize, reading: Reading) -> Flat {
-    if which == NEXT {
-        return flat::next(s, a, reading);
-    }
-    if which == MAKE_ROOM {
-        return flat::make_room(s, a);
-    }
-    if which == TOLD {
-        return flat::told(s, n);
-    }
-    flat::told_failed(s)
-}
-
-fn lent_next(s: Stream, a: &[u8], reading: Reading) -> Flat {
-    flat::flatten(lender::next(s, a, reading))
-}
-
-fn lent_make_room(s: Stream, a: &mut [u8]) -> Flat {
-    flat::flatten(lender::make_room(s, a))
-}
-
-fn lent_told(s: Stream, n: usize) -> Flat {
-    flat::flatten(lender::told(s, n))
-}
-
-fn lent_told_failed(s: Stream) -> Flat {
-    flat::flatten(lender::told_failed(s))
-}
-
-fn over_lent(which: u64, s: Stream, a: &mut [u8], n: usize, reading: Reading) -> Flat {
-    if which == NEXT {
-        return lent_next(s, a, reading);
-    }
-    if which == MAKE_ROOM {
-        return lent_make_room(s, a);
-    }
-    if which == TOLD {
-        return lent_told(s, n);
-    }
-    lent_told_failed(s)
-}
-
-// A call of the stream: by its number next, make room, told or, by any other, told of a failed read.
-pub fn step(lent: bool, which: u64, s: Stream, a: &mut [u8], n: usize, reading: Reading) -> Flat {
-    if lent {
-        return over_lent(which, s, a, n, reading);
-    }
-    by_value(which, s, a, n, reading)
+// How a call is made.
+#[derive(Clone, Copy)]
+pub enum Way {
+    ByValue,
+    Lent,
 }
 
 // What the playing slice answered, and the position behind it.
@@ -78,40 +28,52 @@ fn flat_of(p: Played) -> FlatPlayed {
     }
 }
 
-fn play_by_value(
-    s: Stream,
-    a: &mut [u8],
-    b: &[u8],
-    at: usize,
-    width: usize,
-    reading: Reading,
-) -> FlatPlayed {
-    flat_of(play::play(s, a, b, at, width, reading))
-}
-
-fn play_over_lent(
-    s: Stream,
-    a: &mut [u8],
-    b: &[u8],
-    at: usize,
-    width: usize,
-    reading: Reading,
-) -> FlatPlayed {
-    flat_of(lender::play(s, a, b, at, width, reading))
-}
-
-// The playing slice.
-pub fn play(
-    lent: bool,
-    s: Stream,
-    a: &mut [u8],
-    b: &[u8],
-    at: usize,
-    width: usize,
-    reading: Reading,
-) -> FlatPlayed {
-    if lent {
-        return play_over_lent(s, a, b, at, width, reading);
+impl Way {
+    // Next.
+    pub fn next(self, s: Stream, a: &[u8], reading: Reading) -> Flat {
+        match self {
+            Way::ByValue => flat::next(s, a, reading),
+            Way::Lent => flat::flatten(lender::next(s, a, reading)),
+        }
     }
-    play_by_value(s, a, b, at, width, reading)
+
+    // Make room.
+    pub fn make_room(self, s: Stream, a: &mut [u8]) -> Flat {
+        match self {
+            Way::ByValue => flat::make_room(s, a),
+            Way::Lent => flat::flatten(lender::make_room(s, a)),
+        }
+    }
+
+    // Told what a read brought.
+    pub fn told(self, s: Stream, n: usize) -> Flat {
+        match self {
+            Way::ByValue => flat::told(s, n),
+            Way::Lent => flat::flatten(lender::told(s, n)),
+        }
+    }
+
+    // Told that a read failed.
+    pub fn told_failed(self, s: Stream) -> Flat {
+        match self {
+            Way::ByValue => flat::told_failed(s),
+            Way::Lent => flat::flatten(lender::told_failed(s)),
+        }
+    }
+
+    // The playing slice.
+    pub fn play(
+        self,
+        s: Stream,
+        a: &mut [u8],
+        b: &[u8],
+        at: usize,
+        width: usize,
+        reading: Reading,
+    ) -> FlatPlayed {
+        match self {
+            Way::ByValue => flat_of(play::play(s, a, b, at, width, reading)),
+            Way::Lent => flat_of(lender::play(s, a, b, at, width, reading)),
+        }
+    }
 }

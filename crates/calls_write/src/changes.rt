@@ -1,95 +1,89 @@
 // Changes of a record, so that the writer can be given what no window has: a tag that is not the body's, a timestamp that is too large, a text that is not UTF-8,
 // an imbalance record with the cross Intraday.
 use codes::CrossType;
-use records::{AddOrder, Body, CrossTrade, ImbalanceIndicator, Message, Mpid};
+use records::{
+    AddOrder, Body, CrossTrade, DirectListing, ImbalanceIndicator, IpoQuotingPeriod,
+    MarketParticipantPosition, Message, NonCrossTrade, RetailPriceImprovementIndicator,
+    StockDirectory, Text4,
+};
 
-// What is changed; other numbers are no change.
-const TAG: u64 = 1;
-
-const TIME: u64 = 2;
-
-const TEXT8: u64 = 3;
-
-const TEXT4: u64 = 4;
-
-const NO_MPID: u64 = 5;
-
-const INTRADAY: u64 = 6;
-
-fn mpid_of(old: Mpid, what: u64, to: u64) -> Mpid {
-    if what == TEXT4 {
-        return Mpid::Present((to % 4294967296) as u32);
-    }
-    if what == NO_MPID {
-        return Mpid::Absent;
-    }
-    old
+// What is changed, and to which value.
+#[derive(Clone, Copy)]
+enum Change {
+    Tag(u8),
+    Time(u64),
+    Text8(u64),
+    Text4(u32),
+    NoMpid,
+    Intraday,
 }
 
-fn cross_of(old: CrossType, what: u64) -> CrossType {
-    if what == INTRADAY {
-        return CrossType::Intraday;
+impl Change {
+    // The change of this number; other numbers are none.
+    fn of(what: u64, to: u64) -> Option<Change> {
+        match what {
+            1 => Some(Change::Tag((to % 256) as u8)),
+            2 => Some(Change::Time(to)),
+            3 => Some(Change::Text8(to)),
+            4 => Some(Change::Text4((to % 4294967296) as u32)),
+            5 => Some(Change::NoMpid),
+            6 => Some(Change::Intraday),
+            _ => None,
+        }
     }
-    old
-}
 
-fn text8_of(old: u64, what: u64, to: u64) -> u64 {
-    if what == TEXT8 { to } else { old }
-}
+    fn text8(self, old: u64) -> u64 {
+        match self {
+            Change::Text8(to) => to,
+            _ => old,
+        }
+    }
 
-fn text4_of(old: u32, what: u64, to: u64) -> u32 {
-    if what == TEXT4 {
-        (to % 4294967296) as u32
-    } else {
-        old
+    fn text4(self, old: u32) -> u32 {
+        match self {
+            Change::Text4(to) => to,
+            _ => old,
+        }
+    }
+
+    fn mpid(self, old: Option<Text4>) -> Option<Text4> {
+        match self {
+            Change::Text4(to) => Some(to),
+            Change::NoMpid => None,
+            _ => old,
+        }
+    }
+
+    fn cross(self, old: CrossType) -> CrossType {
+        match self {
+            Change::Intraday => CrossType::Intraday,
+            _ => old,
+        }
     }
 }
 
 // A body with its texts, its mpid or its cross changed, where it has one.
-fn body_of(b: Body, what: u64, to: u64) -> Body {
+fn body_of(b: Body, c: Change) -> Body {
     match b {
-        Body::AddOrder(x) => {
-            let side = x.side;
-            let mpid = x.mpid;
-            Body::AddOrder(AddOrder {
-                reference: x.reference,
-                side,
-                shares: x.shares,
-                stock: text8_of(x.stock, what, to),
-                price: x.price,
-                mpid: mpid_of(mpid, what, to),
-            })
-        }
-        Body::CrossTrade(x) => {
-            let cross = x.cross_type;
-            Body::CrossTrade(CrossTrade {
-                shares: x.shares,
-                stock: text8_of(x.stock, what, to),
-                cross_price: x.cross_price,
-                match_number: x.match_number,
-                cross_type: cross_of(cross, what),
-            })
-        }
-        Body::Imbalance(x) => {
-            let direction = x.imbalance_direction;
-            let cross = x.cross_type;
-            Body::Imbalance(ImbalanceIndicator {
-                paired_shares: x.paired_shares,
-                imbalance_shares: x.imbalance_shares,
-                imbalance_direction: direction,
-                stock: text8_of(x.stock, what, to),
-                far_price: x.far_price,
-                near_price: x.near_price,
-                current_ref_price: x.current_ref_price,
-                cross_type: cross_of(cross, what),
-                price_variation_indicator: x.price_variation_indicator,
-            })
-        }
-        Body::IpoQuotingPeriod(x) => {
-            let mut y = x;
-            y.stock = text8_of(x.stock, what, to);
-            Body::IpoQuotingPeriod(y)
-        }
+        Body::AddOrder(x) => Body::AddOrder(AddOrder {
+            stock: c.text8(x.stock),
+            mpid: c.mpid(x.mpid),
+            ..x
+        }),
+        Body::CrossTrade(x) => Body::CrossTrade(CrossTrade {
+            stock: c.text8(x.stock),
+            cross_type: c.cross(x.cross_type),
+            ..x
+        }),
+        Body::Imbalance(x) => Body::Imbalance(ImbalanceIndicator {
+            stock: c.text8(x.stock),
+            cross_type: c.cross(x.cross_type),
+            ..x
+        }),
+        Body::IpoQuotingPeriod(x) => Body::IpoQuotingPeriod(IpoQuotingPeriod {
+            stock: c.text8(x.stock),
+            ..x
+        }),
         Body::LULDAuctionCollar {
             stock,
             ref_price,
@@ -97,91 +91,82 @@ fn body_of(b: Body, what: u64, to: u64) -> Body {
             lower_price,
             extension,
         } => Body::LULDAuctionCollar {
-            stock: text8_of(stock, what, to),
+            stock: c.text8(stock),
             ref_price,
             upper_price,
             lower_price,
             extension,
         },
-        Body::NonCrossTrade(x) => {
-            let mut y = x;
-            y.stock = text8_of(x.stock, what, to);
-            Body::NonCrossTrade(y)
-        }
-        Body::ParticipantPosition(x) => {
-            let mut y = x;
-            y.stock = text8_of(x.stock, what, to);
-            y.mpid = text4_of(x.mpid, what, to);
-            Body::ParticipantPosition(y)
-        }
+        Body::NonCrossTrade(x) => Body::NonCrossTrade(NonCrossTrade {
+            stock: c.text8(x.stock),
+            ..x
+        }),
+        Body::ParticipantPosition(x) => Body::ParticipantPosition(MarketParticipantPosition {
+            stock: c.text8(x.stock),
+            mpid: c.text4(x.mpid),
+            ..x
+        }),
         Body::RegShoRestriction { stock, action } => Body::RegShoRestriction {
-            stock: text8_of(stock, what, to),
+            stock: c.text8(stock),
             action,
         },
         Body::RetailPriceImprovementIndicator(x) => {
-            let mut y = x;
-            y.stock = text8_of(x.stock, what, to);
-            Body::RetailPriceImprovementIndicator(y)
+            Body::RetailPriceImprovementIndicator(RetailPriceImprovementIndicator {
+                stock: c.text8(x.stock),
+                ..x
+            })
         }
-        Body::StockDirectory(x) => {
-            let mut y = x;
-            y.stock = text8_of(x.stock, what, to);
-            Body::StockDirectory(y)
-        }
+        Body::StockDirectory(x) => Body::StockDirectory(StockDirectory {
+            stock: c.text8(x.stock),
+            ..x
+        }),
         Body::TradingAction {
             stock,
             trading_state,
             reserved,
             reason,
         } => Body::TradingAction {
-            stock: text8_of(stock, what, to),
+            stock: c.text8(stock),
             trading_state,
             reserved,
-            reason: text4_of(reason, what, to),
+            reason: c.text4(reason),
         },
         Body::OperationalHalt {
             stock,
             market_code,
             action,
         } => Body::OperationalHalt {
-            stock: text8_of(stock, what, to),
+            stock: c.text8(stock),
             market_code,
             action,
         },
-        Body::DirectListing(x) => {
-            let mut y = x;
-            y.stock = text8_of(x.stock, what, to);
-            Body::DirectListing(y)
-        }
+        Body::DirectListing(x) => Body::DirectListing(DirectListing {
+            stock: c.text8(x.stock),
+            ..x
+        }),
         _ => b,
     }
 }
 
-// A record with one thing changed: what, and to which value. What its body has no place for changes nothing.
+// A record with one thing changed, if anything. What its body has no place for changes nothing.
 fn once(m: Message, what: u64, to: u64) -> Message {
-    let mut tag = m.tag;
-    let mut timestamp = m.timestamp;
-    if what == TAG {
-        tag = (to % 256) as u8;
+    match Change::of(what, to) {
+        None => m,
+        Some(Change::Tag(tag)) => Message { tag, ..m },
+        Some(Change::Time(timestamp)) => Message { timestamp, ..m },
+        Some(c) => Message {
+            body: body_of(m.body, c),
+            ..m
+        },
     }
-    if what == TIME {
-        timestamp = to;
-    }
-    let body = m.body;
-    Message {
-        tag,
-        stock_locate: m.stock_locate,
-        tracking_number: m.tracking_number,
-        timestamp,
-        body: body_of(body, what, to),
-    }
-}
-
-fn twice(m: Message, what: u64, to: u64, what2: u64, to2: u64) -> Message {
-    once(once(m, what, to), what2, to2)
 }
 
 // A record with four things changed, one after the other, as a call's numbers say: what, and to which value.
 pub fn changed(m: Message, v: [u64; 17]) -> Message {
-    twice(twice(m, v[1], v[2], v[3], v[4]), v[5], v[6], v[7], v[8])
+    let [_, what1, to1, what2, to2, what3, to3, what4, to4, ..] = v;
+    once(
+        once(once(once(m, what1, to1), what2, to2), what3, to3),
+        what4,
+        to4,
+    )
 }

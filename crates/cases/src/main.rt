@@ -2,5 +2,5 @@
 #![tactic(auto)]
 
 fn main(rt: HostRuntime) {
-    showing::cases(&rt, rt.stdin(), rt.stdout(), rt.stderr());
+    showing::cases(rt.stdin(), rt.stdout(), rt.stderr());
 }

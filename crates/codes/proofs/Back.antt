@@ -5,6 +5,7 @@ use mathlib.Core.Path.{◌≡◌, refl, subst}
 use mathlib.Core.Bool.{Bool, true, false, cond, ◌&&◌}
 use mathlib.Core.List.{List, [], ◌∷◌}
 use lib.Dec.{T, eqb}
+use Rattle.std.proofs.Common.{Option, Some, None}
 use Rattle.format.specs.Ascii.{'Y', 'P'}
 use Rattle.format.proofs.Tests.{both, is_true}
 use Rattle.codes.specs.declared.market.EventCode.{EventCode}
@@ -41,8 +42,6 @@ use Rattle.codes.specs.declared.market.HaltAction.{HaltAction}
 use Rattle.codes.specs.declared.market.HaltAction.TheVariants as HaltAction·
 use Rattle.codes.specs.declared.trade.InterestFlag.{InterestFlag}
 use Rattle.codes.specs.declared.trade.InterestFlag.TheVariants as InterestFlag·
-use Rattle.codes.specs.declared.stock.Flag.{Flag}
-use Rattle.codes.specs.declared.stock.Flag.TheVariants as Flag·
 use Rattle.codes.specs.declared.stock.EtpFlag.{EtpFlag}
 use Rattle.codes.specs.declared.stock.EtpFlag.TheVariants as EtpFlag·
 use Rattle.codes.specs.declared.subtype.IssueSubType.{IssueSubType}
@@ -211,11 +210,11 @@ interest-back InterestFlag·.RPIAvailableSellSide = refl
 interest-back InterestFlag·.RPIAvailableBothSides = refl
 interest-back InterestFlag·.RPINoneAvailable = refl
 
-pub flag-back : (x : Flag) → flag_from (flag_byte x) ≡ x
+pub flag-back : (x : Option Bool) → flag_from (flag_byte x) ≡ x
 unfolding flag_from
-flag-back Flag·.Yes = refl
-flag-back Flag·.No = refl
-flag-back Flag·.Absent = refl
+flag-back (Some true) = refl
+flag-back (Some false) = refl
+flag-back None = refl
 
 pub etp_flag-back : (x : EtpFlag) → etp_flag_from (etp_flag_byte x) ≡ x
 unfolding etp_flag_from

@@ -1,12 +1,9 @@
 -- The names behind the codes: which byte, or which two, each name of the Rust's enums stands for; and from that, which name a byte has.
 -- Assumes nothing.
-use Rattle.std.specs.Prelude.{ℕ, Bool, true, false, cond, List, [], ◌∷◌, eqb}
+use Rattle.std.specs.Prelude.{ℕ, Option, Some, None, Bool, true, false, cond, List, [], ◌∷◌, eqb}
 use Rattle.format.specs.Ascii.{'␣', '0', '1', '2', '3', 'A', 'B', 'C', 'D', 'E', 'F', 'G', 'H', 'I', 'J', 'K', 'L', 'M', 'N', 'O', 'P', 'Q', 'R', 'S', 'T', 'U', 'V', 'W', 'X', 'Y', 'Z'}
 use Rattle.format.specs.Codes.{pair, subtypes}
-use Rattle.format.specs.Layout.{Got, got, member, fine, wrong, placed}
-use Rattle.format.specs.Meaning.{fault_m}
-use Rattle.format.specs.declared.Fault.{Fault}
-use Rattle.format.specs.declared.Fault.TheVariants.{Short}
+use Rattle.format.specs.Layout.{Got, member, fine, wrong, placed}
 use Rattle.codes.specs.declared.market.EventCode.{EventCode}
 use Rattle.codes.specs.declared.market.EventCode.TheVariants as EventCode·
 use Rattle.codes.specs.declared.stock.MarketCategory.{MarketCategory}
@@ -41,14 +38,10 @@ use Rattle.codes.specs.declared.market.HaltAction.{HaltAction}
 use Rattle.codes.specs.declared.market.HaltAction.TheVariants as HaltAction·
 use Rattle.codes.specs.declared.trade.InterestFlag.{InterestFlag}
 use Rattle.codes.specs.declared.trade.InterestFlag.TheVariants as InterestFlag·
-use Rattle.codes.specs.declared.stock.Flag.{Flag}
-use Rattle.codes.specs.declared.stock.Flag.TheVariants as Flag·
 use Rattle.codes.specs.declared.stock.EtpFlag.{EtpFlag}
 use Rattle.codes.specs.declared.stock.EtpFlag.TheVariants as EtpFlag·
 use Rattle.codes.specs.declared.subtype.IssueSubType.{IssueSubType}
 use Rattle.codes.specs.declared.subtype.IssueSubType.TheVariants as IssueSubType·
-use Rattle.codes.specs.declared.subtype.SubtypeRead.{SubtypeRead}
-use Rattle.codes.specs.declared.subtype.SubtypeRead.TheVariants.{Got as GotSubtype, No as NoSubtype}
 
 -- the name of a byte: the first of these that it stands for, else the last name. So each list below has the names of its enum but the last
 abbrev pub name_of : {A : Type 0} → (A → ℕ) → List A → A → ℕ → A
@@ -291,16 +284,16 @@ interest_names = InterestFlag·.RPIAvailableBuySide ∷ InterestFlag·.RPIAvaila
 unfoldable pub interest_from : ℕ → InterestFlag
 interest_from b = name_of interest_byte interest_names InterestFlag·.RPINoneAvailable b
 
-abbrev pub flag_byte : Flag → ℕ
-flag_byte Flag·.Yes = 'Y'
-flag_byte Flag·.No = 'N'
-flag_byte Flag·.Absent = '␣'
+abbrev pub flag_byte : Option Bool → ℕ
+flag_byte (Some true) = 'Y'
+flag_byte (Some false) = 'N'
+flag_byte None = '␣'
 
-abbrev pub flag_names : List Flag
-flag_names = Flag·.Yes ∷ Flag·.No ∷ []
+abbrev pub flag_names : List (Option Bool)
+flag_names = Some true ∷ Some false ∷ []
 
-unfoldable pub flag_from : ℕ → Flag
-flag_from b = name_of flag_byte flag_names Flag·.Absent b
+unfoldable pub flag_from : ℕ → Option Bool
+flag_from b = name_of flag_byte flag_names None b
 
 abbrev pub etp_flag_byte : EtpFlag → ℕ
 etp_flag_byte EtpFlag·.Yes = 'Y'
@@ -404,15 +397,6 @@ subtype_names =
 
 unfoldable pub subtype_from : ℕ → IssueSubType
 subtype_from v = name_of subtype_byte subtype_names IssueSubType·.NotApplicable v
-
--- what a subtype's answer means
-abbrev pub subtype_m : SubtypeRead → Got
-subtype_m (GotSubtype t) = got (subtype_byte t)
-subtype_m (NoSubtype e) = fault_m e
-
-abbrev pub subtype_fault : SubtypeRead → Fault
-subtype_fault (GotSubtype t) = Short
-subtype_fault (NoSubtype e) = e
 
 -- two bytes, judged as a subtype
 unfoldable pub subtype_of : ℕ → ℕ → Got

@@ -1,6 +1,10 @@
 // The names of what happens to the market, to a stock and to a participant: S, H, Y, L, W, K and h.
 ghost use Rattle.std.specs.Prelude.{◌≡◌};
+ghost use Rattle.format.specs.Codes.{action, event, halt, level, maker_mode, market, participant_state, qualifier, trading_state};
 ghost use Rattle.codes.specs.Names.{action_byte, action_from, event_byte, event_from, halt_byte, halt_from, level_byte, level_from, maker_mode_byte, maker_mode_from, market_byte, market_from, participant_state_byte, participant_state_from, qualifier_byte, qualifier_from, trading_state_byte, trading_state_from};
+ghost use Rattle.codes.specs.Coded.{action-coded, event-coded, halt-coded, level-coded, maker_mode-coded, market-coded, participant_state-coded, qualifier-coded, trading_state-coded};
+
+use crate::Code;
 
 // The hour of the day that the whole market has come to: S.
 #[derive(Clone, Copy)]
@@ -13,32 +17,43 @@ pub enum EventCode {
     EndOfMessages,
 }
 
-// The name of a byte; EndOfMessages for any that is no code.
-pub fn event_of(b: u8) -> EventCode
-    ensures { result ≡ event_from b }
-{
-    match b {
-        b'O' => EventCode::StartOfMessages,
-        b'S' => EventCode::StartOfSystemHours,
-        b'Q' => EventCode::StartOfMarketHours,
-        b'M' => EventCode::EndOfMarketHours,
-        b'E' => EventCode::EndOfSystemHours,
-        _ => EventCode::EndOfMessages,
-    }
-}
+impl Code for EventCode {
+    type Name = EventCode;
 
-// The byte of a name.
-pub fn event_code(x: EventCode) -> u8
-    ensures { result ≡ event_byte x }
-{
-    match x {
-        EventCode::StartOfMessages => b'O',
-        EventCode::StartOfSystemHours => b'S',
-        EventCode::StartOfMarketHours => b'Q',
-        EventCode::EndOfMarketHours => b'M',
-        EventCode::EndOfSystemHours => b'E',
-        EventCode::EndOfMessages => b'C',
+    ghost set = { event };
+
+    ghost byte = { event_byte };
+
+    ghost name = { event_from };
+
+    fn has(b: u8) -> bool {
+        tables::is_event(b)
     }
+
+    // The name of a byte; EndOfMessages for any that is no code.
+    fn name(b: u8) -> EventCode {
+        match b {
+            b'O' => EventCode::StartOfMessages,
+            b'S' => EventCode::StartOfSystemHours,
+            b'Q' => EventCode::StartOfMarketHours,
+            b'M' => EventCode::EndOfMarketHours,
+            b'E' => EventCode::EndOfSystemHours,
+            _ => EventCode::EndOfMessages,
+        }
+    }
+
+    fn byte(x: EventCode) -> u8 {
+        match x {
+            EventCode::StartOfMessages => b'O',
+            EventCode::StartOfSystemHours => b'S',
+            EventCode::StartOfMarketHours => b'Q',
+            EventCode::EndOfMarketHours => b'M',
+            EventCode::EndOfSystemHours => b'E',
+            EventCode::EndOfMessages => b'C',
+        }
+    }
+
+    ghost named = { event-coded };
 }
 
 // Whether a stock trades: H.
@@ -50,28 +65,39 @@ pub enum TradingState {
     Trading,
 }
 
-// The name of a byte; Trading for any that is no code.
-pub fn trading_state_of(b: u8) -> TradingState
-    ensures { result ≡ trading_state_from b }
-{
-    match b {
-        b'H' => TradingState::Halted,
-        b'P' => TradingState::Paused,
-        b'Q' => TradingState::QuotationOnly,
-        _ => TradingState::Trading,
-    }
-}
+impl Code for TradingState {
+    type Name = TradingState;
 
-// The byte of a name.
-pub fn trading_state_code(x: TradingState) -> u8
-    ensures { result ≡ trading_state_byte x }
-{
-    match x {
-        TradingState::Halted => b'H',
-        TradingState::Paused => b'P',
-        TradingState::QuotationOnly => b'Q',
-        TradingState::Trading => b'T',
+    ghost set = { trading_state };
+
+    ghost byte = { trading_state_byte };
+
+    ghost name = { trading_state_from };
+
+    fn has(b: u8) -> bool {
+        tables::is_trading_state(b)
     }
+
+    // The name of a byte; Trading for any that is no code.
+    fn name(b: u8) -> TradingState {
+        match b {
+            b'H' => TradingState::Halted,
+            b'P' => TradingState::Paused,
+            b'Q' => TradingState::QuotationOnly,
+            _ => TradingState::Trading,
+        }
+    }
+
+    fn byte(x: TradingState) -> u8 {
+        match x {
+            TradingState::Halted => b'H',
+            TradingState::Paused => b'P',
+            TradingState::QuotationOnly => b'Q',
+            TradingState::Trading => b'T',
+        }
+    }
+
+    ghost named = { trading_state-coded };
 }
 
 // The short sale restriction on a stock: Y.
@@ -82,26 +108,37 @@ pub enum RegShoAction {
     Extant,
 }
 
-// The name of a byte; Extant for any that is no code.
-pub fn action_of(b: u8) -> RegShoAction
-    ensures { result ≡ action_from b }
-{
-    match b {
-        b'0' => RegShoAction::None,
-        b'1' => RegShoAction::Intraday,
-        _ => RegShoAction::Extant,
-    }
-}
+impl Code for RegShoAction {
+    type Name = RegShoAction;
 
-// The byte of a name.
-pub fn action_code(x: RegShoAction) -> u8
-    ensures { result ≡ action_byte x }
-{
-    match x {
-        RegShoAction::None => b'0',
-        RegShoAction::Intraday => b'1',
-        RegShoAction::Extant => b'2',
+    ghost set = { action };
+
+    ghost byte = { action_byte };
+
+    ghost name = { action_from };
+
+    fn has(b: u8) -> bool {
+        tables::is_action(b)
     }
+
+    // The name of a byte; Extant for any that is no code.
+    fn name(b: u8) -> RegShoAction {
+        match b {
+            b'0' => RegShoAction::None,
+            b'1' => RegShoAction::Intraday,
+            _ => RegShoAction::Extant,
+        }
+    }
+
+    fn byte(x: RegShoAction) -> u8 {
+        match x {
+            RegShoAction::None => b'0',
+            RegShoAction::Intraday => b'1',
+            RegShoAction::Extant => b'2',
+        }
+    }
+
+    ghost named = { action-coded };
 }
 
 // How a market maker makes the market of a stock: L.
@@ -114,30 +151,41 @@ pub enum MarketMakerMode {
     Penalty,
 }
 
-// The name of a byte; Penalty for any that is no code.
-pub fn maker_mode_of(b: u8) -> MarketMakerMode
-    ensures { result ≡ maker_mode_from b }
-{
-    match b {
-        b'N' => MarketMakerMode::Normal,
-        b'P' => MarketMakerMode::Passive,
-        b'S' => MarketMakerMode::Syndicate,
-        b'R' => MarketMakerMode::Presyndicate,
-        _ => MarketMakerMode::Penalty,
-    }
-}
+impl Code for MarketMakerMode {
+    type Name = MarketMakerMode;
 
-// The byte of a name.
-pub fn maker_mode_code(x: MarketMakerMode) -> u8
-    ensures { result ≡ maker_mode_byte x }
-{
-    match x {
-        MarketMakerMode::Normal => b'N',
-        MarketMakerMode::Passive => b'P',
-        MarketMakerMode::Syndicate => b'S',
-        MarketMakerMode::Presyndicate => b'R',
-        MarketMakerMode::Penalty => b'L',
+    ghost set = { maker_mode };
+
+    ghost byte = { maker_mode_byte };
+
+    ghost name = { maker_mode_from };
+
+    fn has(b: u8) -> bool {
+        tables::is_maker_mode(b)
     }
+
+    // The name of a byte; Penalty for any that is no code.
+    fn name(b: u8) -> MarketMakerMode {
+        match b {
+            b'N' => MarketMakerMode::Normal,
+            b'P' => MarketMakerMode::Passive,
+            b'S' => MarketMakerMode::Syndicate,
+            b'R' => MarketMakerMode::Presyndicate,
+            _ => MarketMakerMode::Penalty,
+        }
+    }
+
+    fn byte(x: MarketMakerMode) -> u8 {
+        match x {
+            MarketMakerMode::Normal => b'N',
+            MarketMakerMode::Passive => b'P',
+            MarketMakerMode::Syndicate => b'S',
+            MarketMakerMode::Presyndicate => b'R',
+            MarketMakerMode::Penalty => b'L',
+        }
+    }
+
+    ghost named = { maker_mode-coded };
 }
 
 // Whether a participant is there for a stock: L.
@@ -150,30 +198,41 @@ pub enum MarketParticipantState {
     Deleted,
 }
 
-// The name of a byte; Deleted for any that is no code.
-pub fn participant_state_of(b: u8) -> MarketParticipantState
-    ensures { result ≡ participant_state_from b }
-{
-    match b {
-        b'A' => MarketParticipantState::Active,
-        b'E' => MarketParticipantState::Excused,
-        b'W' => MarketParticipantState::Withdrawn,
-        b'S' => MarketParticipantState::Suspended,
-        _ => MarketParticipantState::Deleted,
-    }
-}
+impl Code for MarketParticipantState {
+    type Name = MarketParticipantState;
 
-// The byte of a name.
-pub fn participant_state_code(x: MarketParticipantState) -> u8
-    ensures { result ≡ participant_state_byte x }
-{
-    match x {
-        MarketParticipantState::Active => b'A',
-        MarketParticipantState::Excused => b'E',
-        MarketParticipantState::Withdrawn => b'W',
-        MarketParticipantState::Suspended => b'S',
-        MarketParticipantState::Deleted => b'D',
+    ghost set = { participant_state };
+
+    ghost byte = { participant_state_byte };
+
+    ghost name = { participant_state_from };
+
+    fn has(b: u8) -> bool {
+        tables::is_participant_state(b)
     }
+
+    // The name of a byte; Deleted for any that is no code.
+    fn name(b: u8) -> MarketParticipantState {
+        match b {
+            b'A' => MarketParticipantState::Active,
+            b'E' => MarketParticipantState::Excused,
+            b'W' => MarketParticipantState::Withdrawn,
+            b'S' => MarketParticipantState::Suspended,
+            _ => MarketParticipantState::Deleted,
+        }
+    }
+
+    fn byte(x: MarketParticipantState) -> u8 {
+        match x {
+            MarketParticipantState::Active => b'A',
+            MarketParticipantState::Excused => b'E',
+            MarketParticipantState::Withdrawn => b'W',
+            MarketParticipantState::Suspended => b'S',
+            MarketParticipantState::Deleted => b'D',
+        }
+    }
+
+    ghost named = { participant_state-coded };
 }
 
 // Which decline level of the market was breached: W.
@@ -184,26 +243,37 @@ pub enum LevelBreached {
     L3,
 }
 
-// The name of a byte; L3 for any that is no code.
-pub fn level_of(b: u8) -> LevelBreached
-    ensures { result ≡ level_from b }
-{
-    match b {
-        b'1' => LevelBreached::L1,
-        b'2' => LevelBreached::L2,
-        _ => LevelBreached::L3,
-    }
-}
+impl Code for LevelBreached {
+    type Name = LevelBreached;
 
-// The byte of a name.
-pub fn level_code(x: LevelBreached) -> u8
-    ensures { result ≡ level_byte x }
-{
-    match x {
-        LevelBreached::L1 => b'1',
-        LevelBreached::L2 => b'2',
-        LevelBreached::L3 => b'3',
+    ghost set = { level };
+
+    ghost byte = { level_byte };
+
+    ghost name = { level_from };
+
+    fn has(b: u8) -> bool {
+        tables::is_level(b)
     }
+
+    // The name of a byte; L3 for any that is no code.
+    fn name(b: u8) -> LevelBreached {
+        match b {
+            b'1' => LevelBreached::L1,
+            b'2' => LevelBreached::L2,
+            _ => LevelBreached::L3,
+        }
+    }
+
+    fn byte(x: LevelBreached) -> u8 {
+        match x {
+            LevelBreached::L1 => b'1',
+            LevelBreached::L2 => b'2',
+            LevelBreached::L3 => b'3',
+        }
+    }
+
+    ghost named = { level-coded };
 }
 
 // Whether the release time of a new stock stands: K.
@@ -213,24 +283,35 @@ pub enum IpoReleaseQualifier {
     Cancelled,
 }
 
-// The name of a byte; Cancelled for any that is no code.
-pub fn qualifier_of(b: u8) -> IpoReleaseQualifier
-    ensures { result ≡ qualifier_from b }
-{
-    match b {
-        b'A' => IpoReleaseQualifier::Anticipated,
-        _ => IpoReleaseQualifier::Cancelled,
-    }
-}
+impl Code for IpoReleaseQualifier {
+    type Name = IpoReleaseQualifier;
 
-// The byte of a name.
-pub fn qualifier_code(x: IpoReleaseQualifier) -> u8
-    ensures { result ≡ qualifier_byte x }
-{
-    match x {
-        IpoReleaseQualifier::Anticipated => b'A',
-        IpoReleaseQualifier::Cancelled => b'C',
+    ghost set = { qualifier };
+
+    ghost byte = { qualifier_byte };
+
+    ghost name = { qualifier_from };
+
+    fn has(b: u8) -> bool {
+        tables::is_qualifier(b)
     }
+
+    // The name of a byte; Cancelled for any that is no code.
+    fn name(b: u8) -> IpoReleaseQualifier {
+        match b {
+            b'A' => IpoReleaseQualifier::Anticipated,
+            _ => IpoReleaseQualifier::Cancelled,
+        }
+    }
+
+    fn byte(x: IpoReleaseQualifier) -> u8 {
+        match x {
+            IpoReleaseQualifier::Anticipated => b'A',
+            IpoReleaseQualifier::Cancelled => b'C',
+        }
+    }
+
+    ghost named = { qualifier-coded };
 }
 
 // Which market halts a stock by itself: h.
@@ -241,26 +322,37 @@ pub enum MarketCode {
     Psx,
 }
 
-// The name of a byte; Psx for any that is no code.
-pub fn market_of(b: u8) -> MarketCode
-    ensures { result ≡ market_from b }
-{
-    match b {
-        b'Q' => MarketCode::Nasdaq,
-        b'B' => MarketCode::Bx,
-        _ => MarketCode::Psx,
-    }
-}
+impl Code for MarketCode {
+    type Name = MarketCode;
 
-// The byte of a name.
-pub fn market_code(x: MarketCode) -> u8
-    ensures { result ≡ market_byte x }
-{
-    match x {
-        MarketCode::Nasdaq => b'Q',
-        MarketCode::Bx => b'B',
-        MarketCode::Psx => b'X',
+    ghost set = { market };
+
+    ghost byte = { market_byte };
+
+    ghost name = { market_from };
+
+    fn has(b: u8) -> bool {
+        tables::is_market(b)
     }
+
+    // The name of a byte; Psx for any that is no code.
+    fn name(b: u8) -> MarketCode {
+        match b {
+            b'Q' => MarketCode::Nasdaq,
+            b'B' => MarketCode::Bx,
+            _ => MarketCode::Psx,
+        }
+    }
+
+    fn byte(x: MarketCode) -> u8 {
+        match x {
+            MarketCode::Nasdaq => b'Q',
+            MarketCode::Bx => b'B',
+            MarketCode::Psx => b'X',
+        }
+    }
+
+    ghost named = { market-coded };
 }
 
 // Whether it halts the stock or lets it trade again: h.
@@ -270,22 +362,33 @@ pub enum HaltAction {
     Resumed,
 }
 
-// The name of a byte; Resumed for any that is no code.
-pub fn halt_of(b: u8) -> HaltAction
-    ensures { result ≡ halt_from b }
-{
-    match b {
-        b'H' => HaltAction::Halted,
-        _ => HaltAction::Resumed,
-    }
-}
+impl Code for HaltAction {
+    type Name = HaltAction;
 
-// The byte of a name.
-pub fn halt_code(x: HaltAction) -> u8
-    ensures { result ≡ halt_byte x }
-{
-    match x {
-        HaltAction::Halted => b'H',
-        HaltAction::Resumed => b'T',
+    ghost set = { halt };
+
+    ghost byte = { halt_byte };
+
+    ghost name = { halt_from };
+
+    fn has(b: u8) -> bool {
+        tables::is_halt(b)
     }
+
+    // The name of a byte; Resumed for any that is no code.
+    fn name(b: u8) -> HaltAction {
+        match b {
+            b'H' => HaltAction::Halted,
+            _ => HaltAction::Resumed,
+        }
+    }
+
+    fn byte(x: HaltAction) -> u8 {
+        match x {
+            HaltAction::Halted => b'H',
+            HaltAction::Resumed => b'T',
+        }
+    }
+
+    ghost named = { halt-coded };
 }

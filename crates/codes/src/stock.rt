@@ -1,7 +1,11 @@
 // The names of the stock directory, R, but for its subtype.
 ghost use Rattle.std.specs.Prelude.{◌≡◌, eqb};
 ghost use Rattle.format.specs.Ascii.{'Y', 'P'};
+ghost use Rattle.format.specs.Codes.{authenticity, category, class, etp_flag, flag, status, tier, yes_no};
 ghost use Rattle.codes.specs.Names.{authenticity_byte, category_byte, category_from, class_byte, class_from, etp_flag_byte, etp_flag_from, flag_byte, flag_from, status_byte, status_from, tier_byte, tier_from, yes_no_byte};
+ghost use Rattle.codes.specs.Coded.{authenticity-coded, category-coded, class-coded, etp_flag-coded, flag-coded, status-coded, tier-coded, yes_no-coded};
+
+use crate::Code;
 
 // Where a stock is listed.
 #[derive(Clone, Copy)]
@@ -17,38 +21,49 @@ pub enum MarketCategory {
     Unavailable,
 }
 
-// The name of a byte; Unavailable for any that is no code.
-pub fn category_of(b: u8) -> MarketCategory
-    ensures { result ≡ category_from b }
-{
-    match b {
-        b'Q' => MarketCategory::NasdaqGlobalSelect,
-        b'G' => MarketCategory::NasdaqGlobalMarket,
-        b'S' => MarketCategory::NasdaqCapitalMarket,
-        b'N' => MarketCategory::Nyse,
-        b'A' => MarketCategory::NyseMkt,
-        b'P' => MarketCategory::NyseArca,
-        b'Z' => MarketCategory::BatsZExchange,
-        b'V' => MarketCategory::InvestorsExchange,
-        _ => MarketCategory::Unavailable,
-    }
-}
+impl Code for MarketCategory {
+    type Name = MarketCategory;
 
-// The byte of a name.
-pub fn category_code(x: MarketCategory) -> u8
-    ensures { result ≡ category_byte x }
-{
-    match x {
-        MarketCategory::NasdaqGlobalSelect => b'Q',
-        MarketCategory::NasdaqGlobalMarket => b'G',
-        MarketCategory::NasdaqCapitalMarket => b'S',
-        MarketCategory::Nyse => b'N',
-        MarketCategory::NyseMkt => b'A',
-        MarketCategory::NyseArca => b'P',
-        MarketCategory::BatsZExchange => b'Z',
-        MarketCategory::InvestorsExchange => b'V',
-        MarketCategory::Unavailable => b' ',
+    ghost set = { category };
+
+    ghost byte = { category_byte };
+
+    ghost name = { category_from };
+
+    fn has(b: u8) -> bool {
+        tables::is_category(b)
     }
+
+    // The name of a byte; Unavailable for any that is no code.
+    fn name(b: u8) -> MarketCategory {
+        match b {
+            b'Q' => MarketCategory::NasdaqGlobalSelect,
+            b'G' => MarketCategory::NasdaqGlobalMarket,
+            b'S' => MarketCategory::NasdaqCapitalMarket,
+            b'N' => MarketCategory::Nyse,
+            b'A' => MarketCategory::NyseMkt,
+            b'P' => MarketCategory::NyseArca,
+            b'Z' => MarketCategory::BatsZExchange,
+            b'V' => MarketCategory::InvestorsExchange,
+            _ => MarketCategory::Unavailable,
+        }
+    }
+
+    fn byte(x: MarketCategory) -> u8 {
+        match x {
+            MarketCategory::NasdaqGlobalSelect => b'Q',
+            MarketCategory::NasdaqGlobalMarket => b'G',
+            MarketCategory::NasdaqCapitalMarket => b'S',
+            MarketCategory::Nyse => b'N',
+            MarketCategory::NyseMkt => b'A',
+            MarketCategory::NyseArca => b'P',
+            MarketCategory::BatsZExchange => b'Z',
+            MarketCategory::InvestorsExchange => b'V',
+            MarketCategory::Unavailable => b' ',
+        }
+    }
+
+    ghost named = { category-coded };
 }
 
 // What its issuer has failed to do.
@@ -67,42 +82,53 @@ pub enum FinancialStatus {
     Unavailable,
 }
 
-// The name of a byte; Unavailable for any that is no code.
-pub fn status_of(b: u8) -> FinancialStatus
-    ensures { result ≡ status_from b }
-{
-    match b {
-        b'N' => FinancialStatus::Normal,
-        b'D' => FinancialStatus::Deficient,
-        b'E' => FinancialStatus::Delinquent,
-        b'Q' => FinancialStatus::Bankrupt,
-        b'S' => FinancialStatus::Suspended,
-        b'G' => FinancialStatus::DeficientBankrupt,
-        b'H' => FinancialStatus::DeficientDelinquent,
-        b'J' => FinancialStatus::DelinquentBankrupt,
-        b'K' => FinancialStatus::DeficientDelinquentBankrupt,
-        b'C' => FinancialStatus::EtpSuspended,
-        _ => FinancialStatus::Unavailable,
-    }
-}
+impl Code for FinancialStatus {
+    type Name = FinancialStatus;
 
-// The byte of a name.
-pub fn status_code(x: FinancialStatus) -> u8
-    ensures { result ≡ status_byte x }
-{
-    match x {
-        FinancialStatus::Normal => b'N',
-        FinancialStatus::Deficient => b'D',
-        FinancialStatus::Delinquent => b'E',
-        FinancialStatus::Bankrupt => b'Q',
-        FinancialStatus::Suspended => b'S',
-        FinancialStatus::DeficientBankrupt => b'G',
-        FinancialStatus::DeficientDelinquent => b'H',
-        FinancialStatus::DelinquentBankrupt => b'J',
-        FinancialStatus::DeficientDelinquentBankrupt => b'K',
-        FinancialStatus::EtpSuspended => b'C',
-        FinancialStatus::Unavailable => b' ',
+    ghost set = { status };
+
+    ghost byte = { status_byte };
+
+    ghost name = { status_from };
+
+    fn has(b: u8) -> bool {
+        tables::is_status(b)
     }
+
+    // The name of a byte; Unavailable for any that is no code.
+    fn name(b: u8) -> FinancialStatus {
+        match b {
+            b'N' => FinancialStatus::Normal,
+            b'D' => FinancialStatus::Deficient,
+            b'E' => FinancialStatus::Delinquent,
+            b'Q' => FinancialStatus::Bankrupt,
+            b'S' => FinancialStatus::Suspended,
+            b'G' => FinancialStatus::DeficientBankrupt,
+            b'H' => FinancialStatus::DeficientDelinquent,
+            b'J' => FinancialStatus::DelinquentBankrupt,
+            b'K' => FinancialStatus::DeficientDelinquentBankrupt,
+            b'C' => FinancialStatus::EtpSuspended,
+            _ => FinancialStatus::Unavailable,
+        }
+    }
+
+    fn byte(x: FinancialStatus) -> u8 {
+        match x {
+            FinancialStatus::Normal => b'N',
+            FinancialStatus::Deficient => b'D',
+            FinancialStatus::Delinquent => b'E',
+            FinancialStatus::Bankrupt => b'Q',
+            FinancialStatus::Suspended => b'S',
+            FinancialStatus::DeficientBankrupt => b'G',
+            FinancialStatus::DeficientDelinquent => b'H',
+            FinancialStatus::DelinquentBankrupt => b'J',
+            FinancialStatus::DeficientDelinquentBankrupt => b'K',
+            FinancialStatus::EtpSuspended => b'C',
+            FinancialStatus::Unavailable => b' ',
+        }
+    }
+
+    ghost named = { status-coded };
 }
 
 // The class of the security.
@@ -126,52 +152,63 @@ pub enum IssueClassification {
     Warrant,
 }
 
-// The name of a byte; Warrant for any that is no code.
-pub fn class_of(b: u8) -> IssueClassification
-    ensures { result ≡ class_from b }
-{
-    match b {
-        b'A' => IssueClassification::AmericanDepositaryShare,
-        b'B' => IssueClassification::Bond,
-        b'C' => IssueClassification::CommonStock,
-        b'F' => IssueClassification::DepositoryReceipt,
-        b'I' => IssueClassification::A144,
-        b'L' => IssueClassification::LimitedPartnership,
-        b'N' => IssueClassification::Notes,
-        b'O' => IssueClassification::OrdinaryShare,
-        b'P' => IssueClassification::PreferredStock,
-        b'Q' => IssueClassification::OtherSecurities,
-        b'R' => IssueClassification::Right,
-        b'S' => IssueClassification::SharesOfBeneficialInterest,
-        b'T' => IssueClassification::ConvertibleDebenture,
-        b'U' => IssueClassification::Unit,
-        b'V' => IssueClassification::UnitsPerBenifInt,
-        _ => IssueClassification::Warrant,
-    }
-}
+impl Code for IssueClassification {
+    type Name = IssueClassification;
 
-// The byte of a name.
-pub fn class_code(x: IssueClassification) -> u8
-    ensures { result ≡ class_byte x }
-{
-    match x {
-        IssueClassification::AmericanDepositaryShare => b'A',
-        IssueClassification::Bond => b'B',
-        IssueClassification::CommonStock => b'C',
-        IssueClassification::DepositoryReceipt => b'F',
-        IssueClassification::A144 => b'I',
-        IssueClassification::LimitedPartnership => b'L',
-        IssueClassification::Notes => b'N',
-        IssueClassification::OrdinaryShare => b'O',
-        IssueClassification::PreferredStock => b'P',
-        IssueClassification::OtherSecurities => b'Q',
-        IssueClassification::Right => b'R',
-        IssueClassification::SharesOfBeneficialInterest => b'S',
-        IssueClassification::ConvertibleDebenture => b'T',
-        IssueClassification::Unit => b'U',
-        IssueClassification::UnitsPerBenifInt => b'V',
-        IssueClassification::Warrant => b'W',
+    ghost set = { class };
+
+    ghost byte = { class_byte };
+
+    ghost name = { class_from };
+
+    fn has(b: u8) -> bool {
+        tables::is_class(b)
     }
+
+    // The name of a byte; Warrant for any that is no code.
+    fn name(b: u8) -> IssueClassification {
+        match b {
+            b'A' => IssueClassification::AmericanDepositaryShare,
+            b'B' => IssueClassification::Bond,
+            b'C' => IssueClassification::CommonStock,
+            b'F' => IssueClassification::DepositoryReceipt,
+            b'I' => IssueClassification::A144,
+            b'L' => IssueClassification::LimitedPartnership,
+            b'N' => IssueClassification::Notes,
+            b'O' => IssueClassification::OrdinaryShare,
+            b'P' => IssueClassification::PreferredStock,
+            b'Q' => IssueClassification::OtherSecurities,
+            b'R' => IssueClassification::Right,
+            b'S' => IssueClassification::SharesOfBeneficialInterest,
+            b'T' => IssueClassification::ConvertibleDebenture,
+            b'U' => IssueClassification::Unit,
+            b'V' => IssueClassification::UnitsPerBenifInt,
+            _ => IssueClassification::Warrant,
+        }
+    }
+
+    fn byte(x: IssueClassification) -> u8 {
+        match x {
+            IssueClassification::AmericanDepositaryShare => b'A',
+            IssueClassification::Bond => b'B',
+            IssueClassification::CommonStock => b'C',
+            IssueClassification::DepositoryReceipt => b'F',
+            IssueClassification::A144 => b'I',
+            IssueClassification::LimitedPartnership => b'L',
+            IssueClassification::Notes => b'N',
+            IssueClassification::OrdinaryShare => b'O',
+            IssueClassification::PreferredStock => b'P',
+            IssueClassification::OtherSecurities => b'Q',
+            IssueClassification::Right => b'R',
+            IssueClassification::SharesOfBeneficialInterest => b'S',
+            IssueClassification::ConvertibleDebenture => b'T',
+            IssueClassification::Unit => b'U',
+            IssueClassification::UnitsPerBenifInt => b'V',
+            IssueClassification::Warrant => b'W',
+        }
+    }
+
+    ghost named = { class-coded };
 }
 
 // The tier of its limit up, limit down prices.
@@ -182,56 +219,73 @@ pub enum LuldRefPriceTier {
     Na,
 }
 
-// The name of a byte; Na for any that is no code.
-pub fn tier_of(b: u8) -> LuldRefPriceTier
-    ensures { result ≡ tier_from b }
-{
-    match b {
-        b'1' => LuldRefPriceTier::Tier1,
-        b'2' => LuldRefPriceTier::Tier2,
-        _ => LuldRefPriceTier::Na,
+impl Code for LuldRefPriceTier {
+    type Name = LuldRefPriceTier;
+
+    ghost set = { tier };
+
+    ghost byte = { tier_byte };
+
+    ghost name = { tier_from };
+
+    fn has(b: u8) -> bool {
+        tables::is_tier(b)
     }
+
+    // The name of a byte; Na for any that is no code.
+    fn name(b: u8) -> LuldRefPriceTier {
+        match b {
+            b'1' => LuldRefPriceTier::Tier1,
+            b'2' => LuldRefPriceTier::Tier2,
+            _ => LuldRefPriceTier::Na,
+        }
+    }
+
+    fn byte(x: LuldRefPriceTier) -> u8 {
+        match x {
+            LuldRefPriceTier::Tier1 => b'1',
+            LuldRefPriceTier::Tier2 => b'2',
+            LuldRefPriceTier::Na => b' ',
+        }
+    }
+
+    ghost named = { tier-coded };
 }
 
-// The byte of a name.
-pub fn tier_code(x: LuldRefPriceTier) -> u8
-    ensures { result ≡ tier_byte x }
-{
-    match x {
-        LuldRefPriceTier::Tier1 => b'1',
-        LuldRefPriceTier::Tier2 => b'2',
-        LuldRefPriceTier::Na => b' ',
-    }
-}
+// Yes, no or absent, as the short sale threshold and the IPO flag are.
+pub struct Flag {}
 
-// Yes, no or absent: the Rust's Option<bool>.
-#[derive(Clone, Copy)]
-pub enum Flag {
-    Yes,
-    No,
-    Absent,
-}
+impl Code for Flag {
+    type Name = Option<bool>;
 
-// The name of a byte; Absent for any that is no code.
-pub fn flag_of(b: u8) -> Flag
-    ensures { result ≡ flag_from b }
-{
-    match b {
-        b'Y' => Flag::Yes,
-        b'N' => Flag::No,
-        _ => Flag::Absent,
-    }
-}
+    ghost set = { flag };
 
-// The byte of a name.
-pub fn flag_code(x: Flag) -> u8
-    ensures { result ≡ flag_byte x }
-{
-    match x {
-        Flag::Yes => b'Y',
-        Flag::No => b'N',
-        Flag::Absent => b' ',
+    ghost byte = { flag_byte };
+
+    ghost name = { flag_from };
+
+    fn has(b: u8) -> bool {
+        tables::is_flag(b)
     }
+
+    // The name of a byte; None for any that is no code.
+    fn name(b: u8) -> Option<bool> {
+        match b {
+            b'Y' => Some(true),
+            b'N' => Some(false),
+            _ => None,
+        }
+    }
+
+    fn byte(x: Option<bool>) -> u8 {
+        match x {
+            Some(true) => b'Y',
+            Some(false) => b'N',
+            None => b' ',
+        }
+    }
+
+    ghost named = { flag-coded };
 }
 
 // The ETP flag: yes, no or absent, and M, which has the letter for its name. The Rust's Option<bool> takes M for yes, and nothing says what else it means.
@@ -243,54 +297,93 @@ pub enum EtpFlag {
     Absent,
 }
 
-// The name of a byte; Absent for any that is no code.
-pub fn etp_flag_of(b: u8) -> EtpFlag
-    ensures { result ≡ etp_flag_from b }
-{
-    match b {
-        b'Y' => EtpFlag::Yes,
-        b'N' => EtpFlag::No,
-        b'M' => EtpFlag::M,
-        _ => EtpFlag::Absent,
+impl Code for EtpFlag {
+    type Name = EtpFlag;
+
+    ghost set = { etp_flag };
+
+    ghost byte = { etp_flag_byte };
+
+    ghost name = { etp_flag_from };
+
+    fn has(b: u8) -> bool {
+        tables::is_etp_flag(b)
     }
-}
 
-// The byte of a name.
-pub fn etp_flag_code(x: EtpFlag) -> u8
-    ensures { result ≡ etp_flag_byte x }
-{
-    match x {
-        EtpFlag::Yes => b'Y',
-        EtpFlag::No => b'N',
-        EtpFlag::M => b'M',
-        EtpFlag::Absent => b' ',
+    // The name of a byte; Absent for any that is no code.
+    fn name(b: u8) -> EtpFlag {
+        match b {
+            b'Y' => EtpFlag::Yes,
+            b'N' => EtpFlag::No,
+            b'M' => EtpFlag::M,
+            _ => EtpFlag::Absent,
+        }
     }
+
+    fn byte(x: EtpFlag) -> u8 {
+        match x {
+            EtpFlag::Yes => b'Y',
+            EtpFlag::No => b'N',
+            EtpFlag::M => b'M',
+            EtpFlag::Absent => b' ',
+        }
+    }
+
+    ghost named = { etp_flag-coded };
 }
 
-// Yes is true: whether the byte is Y.
-pub fn yes_no_of(b: u8) -> bool
-    ensures { result ≡ eqb b 'Y' }
-{
-    b == b'Y'
+// Yes or no.
+pub struct YesNo {}
+
+impl Code for YesNo {
+    type Name = bool;
+
+    ghost set = { yes_no };
+
+    ghost byte = { yes_no_byte };
+
+    ghost name = { λ b. eqb b 'Y' };
+
+    fn has(b: u8) -> bool {
+        tables::is_yes_no(b)
+    }
+
+    // Yes is true: whether the byte is Y.
+    fn name(b: u8) -> bool {
+        b == b'Y'
+    }
+
+    fn byte(x: bool) -> u8 {
+        if x { b'Y' } else { b'N' }
+    }
+
+    ghost named = { yes_no-coded };
 }
 
-// Y for yes, N for no.
-pub fn yes_no_code(x: bool) -> u8
-    ensures { result ≡ yes_no_byte x }
-{
-    if x { b'Y' } else { b'N' }
-}
+// Whether a stock is in production, or a test.
+pub struct Authenticity {}
 
-// Production is true: whether the byte is P.
-pub fn authenticity_of(b: u8) -> bool
-    ensures { result ≡ eqb b 'P' }
-{
-    b == b'P'
-}
+impl Code for Authenticity {
+    type Name = bool;
 
-// P for production, T for a test.
-pub fn authenticity_code(x: bool) -> u8
-    ensures { result ≡ authenticity_byte x }
-{
-    if x { b'P' } else { b'T' }
+    ghost set = { authenticity };
+
+    ghost byte = { authenticity_byte };
+
+    ghost name = { λ b. eqb b 'P' };
+
+    fn has(b: u8) -> bool {
+        tables::is_authenticity(b)
+    }
+
+    // Production is true: whether the byte is P.
+    fn name(b: u8) -> bool {
+        b == b'P'
+    }
+
+    fn byte(x: bool) -> u8 {
+        if x { b'P' } else { b'T' }
+    }
+
+    ghost named = { authenticity-coded };
 }

@@ -4,9 +4,10 @@ ghost use Rattle.std.specs.Prelude.{◌≡◌, map};
 ghost use Rattle.format.specs.Codes.{subtypes};
 ghost use Rattle.format.specs.Layout.{subtype, field};
 ghost use Rattle.subtypes.specs.Rows.{index_in};
-ghost use Rattle.codes.specs.Names.{subtype_byte, subtype_m, subtype_fault, subtype_of};
+ghost use Rattle.format.specs.Meaning.{field_m};
+ghost use Rattle.codes.specs.Names.{subtype_byte, subtype_of};
 
-use format::{Fault, Num16};
+use format::Fault;
 
 // What kind of security a stock is, more finely than its class: R. Declared in the order of the codes.
 #[derive(Clone, Copy)]
@@ -69,13 +70,6 @@ pub enum IssueSubType {
     Trust,
     Other,
     NotApplicable,
-}
-
-// A subtype that was read, or why there is none.
-#[derive(Clone, Copy)]
-pub enum SubtypeRead {
-    Got(IssueSubType),
-    No(Fault),
 }
 
 // The names in the order of the rows.
@@ -148,15 +142,14 @@ fn names() -> [IssueSubType; 58]
 }
 
 // The name of two bytes; 2 at the place for any two that are no code.
-fn subtype_of(v: u16, place: u8) -> SubtypeRead
-    ensures { subtype_m result ≡ subtype_of v place }
+fn subtype_of(v: u16, place: u8) -> Result<IssueSubType, Fault>
+    ensures { field_m subtype_byte result ≡ subtype_of v place }
 {
-    let row = subtypes::row_of(v);
-    if row >= 58 {
-        return SubtypeRead::No(Fault::Refused(2, place as usize));
-    }
+    let Some(row) = subtypes::row_of(v) else {
+        return Err(format::refused(2, place as usize));
+    };
     let names = names();
-    SubtypeRead::Got(names[row])
+    Ok(names[row])
 }
 
 // The row of a name: its number in the enum.
@@ -170,26 +163,13 @@ fn row(x: IssueSubType) -> usize
 pub fn subtype_code(x: IssueSubType) -> u16
     ensures { result ≡ subtype_byte x }
 {
-    subtypes::code_of(row(x))
+    subtypes::code_of(row(x)).unwrap()
 }
 
 // The issue subtype at a place: two bytes that are one of the 58 codes; 2 elsewhere, short where the slice ends before.
-pub fn subtype_at(s: &[u8], place: u8) -> SubtypeRead
-    ensures { subtype_m result ≡ field subtype s.now place }
+pub fn subtype_at(s: &[u8], place: u8) -> Result<IssueSubType, Fault>
+    ensures { field_m subtype_byte result ≡ field subtype s.now place }
 {
-    let f = format::be_u16(s, place);
-    let Num16::Got(v) = f else {
-        return SubtypeRead::No(format::no_u16(f));
-    };
+    let v: u16 = format::number_at(s, place)?;
     subtype_of(v, place)
-}
-
-// Why there is no subtype; short where there is one.
-pub fn no_subtype(f: SubtypeRead) -> Fault
-    ensures { result ≡ subtype_fault f }
-{
-    match f {
-        SubtypeRead::Got(_) => Fault::Short,
-        SubtypeRead::No(e) => e,
-    }
 }

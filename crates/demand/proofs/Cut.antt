@@ -8,10 +8,9 @@ use native.Mathlib.Omega.{arith}
 use native.Mathlib.Nat.{add-zero}
 use lib.ListN.{length, take, drop, length-append, length-drop}
 use lib.Seq.{drop-append-le, drop-append-add, drop-drop}
-use Rattle.reader.specs.declared.Window.{Window}
+use Rattle.reader.specs.Window.{Window}
 use Rattle.walk.specs.declared.Walk.{Walk}
-use Rattle.walk.specs.declared.Verdict.{Verdict}
-use Rattle.walk.specs.Walk.{frame_size, frame_of, past_of, more_of, done_of, step_of, Lawful}
+use Rattle.walk.specs.Walk.{frame_size, frame_of, past_of, more_of, done_of, step_of, Lawful, Verdict}
 use Rattle.walk.specs.Frames.{Walked, after, walk_at, accepts, all_used, told, run_by, run, joined, pad, ran_of}
 use Rattle.demand.proofs.Walks.{walk-tail, walk-frame-as, whole?, short-append}
 use Rattle.demand.proofs.Steps.{Holds, step-more, step-done, holds_more, holds-past}

@@ -11,8 +11,7 @@ use borrow.Author.Tests.{ltb-true}
 use lib.Dec.{ltb}
 use lib.ListN.{length, take, drop, length-append, length-map}
 use Rattle.format.specs.declared.Reading.{Reading}
-use Rattle.reader.specs.declared.Window.{Window}
-use Rattle.reader.specs.Window.{window_of}
+use Rattle.reader.specs.Window.{window_of, Window}
 use Rattle.laws.proofs.Answers.{keeps, enough}
 use Rattle.walk.specs.declared.Walk.{Walk}
 use Rattle.walk.specs.declared.Stepped.{Stepped}

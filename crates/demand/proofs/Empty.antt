@@ -6,7 +6,7 @@ use mathlib.Core.Bool.{Bool, true, false}
 use mathlib.Core.List.{List, []}
 use native.Mathlib.Nat.{add-zero}
 use native.Mathlib.Omega.{arith}
-use Rattle.reader.specs.declared.Window.{Window}
+use Rattle.reader.specs.Window.{Window}
 use Rattle.walk.specs.declared.Walk.{Walk}
 use Rattle.walk.specs.Walk.{frame_size, sound_of, countable, step_of}
 use Rattle.walk.proofs.Held.{put-nil}

@@ -8,7 +8,7 @@ use mathlib.Core.Logic.{⊎_elim}
 use native.Mathlib.Omega.{arith}
 use lib.ListN.{length, take, drop, get_or, length-drop, length-take, get_or-map}
 use lib.Seq.{get_or-drop, get_or-take, ext_get_or}
-use Rattle.reader.specs.declared.Window.{Window}
+use Rattle.reader.specs.Window.{Window}
 use Rattle.walk.specs.Walk.{frame_size, frame_of}
 use Rattle.walk.specs.Frames.{Entry, Walked, walk_at, walk_of, nothing}
 use Rattle.demand.specs.Promises.{Inside, Overwritten}

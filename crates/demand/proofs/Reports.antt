@@ -6,24 +6,23 @@ use mathlib.Core.Bool.{cond}
 use mathlib.Core.List.{List}
 use lib.Dec.{ltb}
 use lib.ListN.{length, take}
+use Rattle.std.specs.Prelude.{Ok, Err}
+use Rattle.format.specs.declared.Fault.TheVariants.{Short, Refused}
+use Rattle.format.specs.Meaning.{refusal}
 use Rattle.records.proofs.Back.{body_back}
-use Rattle.reader.specs.declared.Window.{Window}
-use Rattle.reader.specs.declared.Window.TheVariants.{Message, Incomplete, Refused}
-use Rattle.reader.specs.Window.{window_m}
+use Rattle.reader.specs.Window.{window_m, Window}
 use Rattle.laws.proofs.Unique.{one-to-one, pushed}
 use Rattle.walk.specs.declared.Walk.{Walk}
 use Rattle.walk.specs.declared.Stepped.{Stepped}
-use Rattle.walk.specs.declared.Verdict.{Verdict}
-use Rattle.walk.specs.declared.Verdict.TheVariants.{Accepted, Bad}
 use Rattle.walk.specs.declared.Answer.{Answer}
 use Rattle.walk.specs.declared.Answer.TheVariants.{Frame, WantsMore, Refused as Refuses}
-use Rattle.walk.specs.Walk.{frame_size, verdict_of, frame_of, judge_of, sound_of, countable, put, done_of, more_of, refused_of, moved_by, moved_of, step_of}
+use Rattle.walk.specs.Walk.{frame_size, verdict_of, frame_of, judge_of, sound_of, countable, put, done_of, more_of, refused_of, moved_by, moved_of, step_of, Verdict}
 use Rattle.walk.specs.Meaning.{Ruling, ruling_m, ruling_from, Report, frame, more, fault, report_m, report_from}
 use Rattle.demand.specs.Reports.{ruling_of, moved_report, step_report}
 
 pub ruling-back : (v : Verdict) → ruling_from (ruling_m v) ≡ v
-ruling-back (Accepted m) = simp body_back
-ruling-back (Bad n p) = refl
+ruling-back (Ok m) = simp body_back
+ruling-back (Err r) = refl
 
 pub report-back : (a : Answer) → report_from (report_m a) ≡ a
 report-back (Frame offset size what) = ap (Frame offset size) (ruling-back what)
@@ -40,9 +39,9 @@ abbrev said : Stepped → Report
 said x = report_m x.answer
 
 verdict-means : (w : Window) (size : ℕ) → ruling_m (verdict_of w size) ≡ ruling_of (window_m w) size
-verdict-means (Message m used) size = pushed ruling_m (ltb used size) (Bad 21 0) (Accepted m)
-verdict-means Incomplete size = refl
-verdict-means (Refused n p) size = refl
+verdict-means (Ok (m, used)) size = pushed ruling_m (ltb used size) (Err (refusal 21 0)) (Ok m)
+verdict-means (Err Short) size = refl
+verdict-means (Err (Refused r)) size = refl
 
 module _ (win : List ℕ → Window) where
   abbrev reads : List ℕ → Rattle.format.specs.Layout.Answer

@@ -10,10 +10,9 @@ use borrow.Author.Tests.{lt-ltb, leb-true, leb-false}
 use lib.ListN.{length, take, drop, get_or, length-append, take-append-drop}
 use lib.Seq.{length-take-le, take-take}
 use lib.Dec.{leb}
-use Rattle.reader.specs.declared.Window.{Window}
+use Rattle.reader.specs.Window.{Window}
 use Rattle.walk.specs.declared.Walk.{Walk}
-use Rattle.walk.specs.declared.Verdict.{Verdict}
-use Rattle.walk.specs.Walk.{put, zeros, zero_from, frame_size, frame_of, judge_of, past_of, more_of, done_of, moved_of, sound_of, step_of, Lawful}
+use Rattle.walk.specs.Walk.{put, zeros, zero_from, frame_size, frame_of, judge_of, past_of, more_of, done_of, moved_of, sound_of, step_of, Lawful, Verdict}
 use Rattle.walk.specs.Frames.{pad}
 use Rattle.walk.proofs.Cases.{moved_more, moved-done, sound-rest, step-moves, count-one}
 

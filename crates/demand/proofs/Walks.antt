@@ -10,7 +10,7 @@ use borrow.Author.Tests.{lt-ltb, le-ltb}
 use lib.ListN.{length, take, drop, length-append, length-drop, drop_of_length-le, get_or-append}
 use lib.Seq.{take-append-le}
 use Rattle.format.proofs.Tests.{le-or-lt}
-use Rattle.reader.specs.declared.Window.{Window}
+use Rattle.reader.specs.Window.{Window}
 use Rattle.walk.specs.Walk.{frame_size, frame_of}
 use Rattle.walk.specs.Frames.{tail_at, after, entry_at, walk_at, walk_of, sizes}
 

@@ -2,7 +2,7 @@
 -- Assumes nothing.
 use Rattle.std.specs.Prelude.{ℕ, ◌+◌, ◌*◌, ◌≤◌, ◌<◌, ◌≡◌, List, [], ◌∷◌, ◌⊎◌, length, get_or, take, drop}
 use Rattle.format.specs.declared.Reading.{Reading}
-use Rattle.reader.specs.declared.Window.{Window}
+use Rattle.reader.specs.Window.{Window}
 use Rattle.walk.specs.declared.Walk.{Walk}
 use Rattle.walk.specs.Walk.{frame_size, frame_of, fresh_of, step_of}
 use Rattle.walk.specs.Frames.{Entry, all_used, sizes, accepts, joined, walk_of, run_of, nothing}

@@ -2,14 +2,17 @@
 -- Assumes nothing.
 use Prim.Native.Nat.{ℕ, ◌+◌, ◌-◌, ◌≤◌}
 use mathlib.Core.Path.{◌≡◌, refl, sym, ap, ◌∙◌}
-use mathlib.Core.Bool.{Bool, true, false}
+use mathlib.Core.Bool.{true, false}
 use mathlib.Core.List.{List, ◌++◌}
 use mathlib.Core.Logic.{◌⊎◌, inl, inr, ⊎_elim}
 use native.Mathlib.Omega.{arith}
 use lib.ListN.{length, take, drop, length-take, length-drop}
 use lib.Seq.{length-take-le, take_at}
 use Rattle.standard.specs.declared.Brought.{Brought}
-use Rattle.standard.specs.Reads.{Reads}
+use Rattle.standard.specs.declared.ReadFailed.{ReadFailed}
+use Rattle.standard.specs.Reads.{Reads, bytes_of, has_failed}
+use Rattle.std.specs.declared.result.Result.{Result}
+use Rattle.std.specs.declared.result.Result.TheVariants.{Ok, Err}
 use Rattle.stream.specs.declared.Stream.{Stream}
 use Rattle.stream.specs.declared.Step.{Step}
 use Rattle.stream.specs.declared.Answer.{Answer}
@@ -88,13 +91,13 @@ pub ready-or : (s : Stream) (len : ℕ) → ((room_of s len).answer ≡ Ready) �
 ready-or s len = ready-step s len (room_of s len) (room-is s len)
 
 -- told by a test
-pub tell-case : {A : Type 0} (s : Stream) (b : Brought) → (b.failed ≡ true → tell_of s b ≡ failed_of s → A)
-    → (b.failed ≡ false → tell_of s b ≡ told_of s b.bytes → A) → A
-tell-case {A} s b f g = at b.failed refl
+pub tell-case : {A : Type 0} (s : Stream) (b : Brought) → (has_failed b ≡ true → tell_of s b ≡ failed_of s → A)
+    → (has_failed b ≡ false → tell_of s b ≡ told_of s (bytes_of b) → A) → A
+tell-case {A} s b f g = at b.came refl
   where
-    at : (x : Bool) → b.failed ≡ x → A
-    at true e = f e (rw e)
-    at false e = g e (rw e)
+    at : (x : Result ℕ ReadFailed) → b.came ≡ x → A
+    at (Ok n) e = g (rw e) (rw e)
+    at (Err _) e = f (rw e) (rw e)
 
 pub turned : (s : Stream) (v : Brought) (b : List ℕ) (x : Turn) (c : List ℕ) → Fed s v b x c → Onward s x.step
 turned s v b x c R =
@@ -103,16 +106,9 @@ turned s v b x c R =
     let C = R.came a in
     tell-case (room_of s (length b)).state x.brought
     (λ _ e. read-fails s (length b) (room_of s (length b)) x.step refl a (C.step ∙ e))
-    (λ _ e. read-tells s (length b) (room_of s (length b)) x.brought.bytes x.step refl a (C.step ∙ e)))
+    (λ _ e. read-tells s (length b) (room_of s (length b)) (bytes_of x.brought) x.step refl a (C.step ∙ e)))
     (λ f. no_room s (length b) x.step (R.no_room f).0 (λ a. f (ap (λ (y : Step). y.answer) (sym (R.no_room f).0) ∙ a)))
     (ready-or s (length b))
-
--- what is told, by the test of the code
-pub tells-failed : (s : Stream) (b : Brought) (f : Bool) (r : Step) → f ≡ b.failed → f ≡ true → r ≡ failed_of s → r ≡ tell_of s b
-tells-failed s b f r e t h = rw (sym e ∙ t) h
-
-pub tells-bytes : (s : Stream) (b : Brought) (f : Bool) (n : ℕ) (r : Step) → f ≡ b.failed → f ≡ false → n ≡ b.bytes → r ≡ told_of s n → r ≡ tell_of s b
-tells-bytes s b f n r e t k h = rw (sym e ∙ t) (h ∙ ap (told_of s) k)
 
 -- ---- what feed does
 
@@ -140,7 +136,6 @@ one-read s v b r m z x e a h i l j f t =
         reads = record {
           room = omega (arith, f.room, o, j, ap (λ (q : Stream). q.end) y);
           fits = omega (arith, f.fits, o, j, ap (λ (q : Stream). q.end) y);
-          fails = f.fails;
           total = f.total;
         };
         front =

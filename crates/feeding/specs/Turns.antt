@@ -1,6 +1,6 @@
 -- A read of standard input for a stream: it is told to the stream as what it brought.
 -- Assumes nothing.
-use Rattle.std.specs.Prelude.{ℕ, ◌-◌, ◌≡◌, Bool, true, false, cond, List, length, take}
+use Rattle.std.specs.Prelude.{ℕ, ◌-◌, ◌≡◌, Bool, true, false, List, length, take, Ok, Err}
 use Rattle.standard.specs.declared.Brought.{Brought}
 use Rattle.standard.specs.Reads.{Reads}
 use Rattle.stream.specs.declared.Stream.{Stream}
@@ -21,7 +21,7 @@ is_ready (Refused n p) = false
 
 -- what the state is told of a read
 abbrev pub tell_of : Stream → Brought → Step
-tell_of s b = cond b.failed (failed_of s) (told_of s b.bytes)
+tell_of s b = elim b.came [ Ok n ↦ told_of s n | Err _ ↦ failed_of s ]
 
 -- a read into the free part of the buffer that room was made in: what stands before the free part stays, and the state is told what the read brought
 pub record Came (s : Stream) (v : Brought) (b : List ℕ) (r : Turn) (c : List ℕ) : Type 0 where

@@ -12,24 +12,17 @@ use stream::{Answer, Step, Stream};
 pub fn ready(s: Step) -> bool
     ensures { result ≡ is_ready s.answer }
 {
-    let answer = s.answer;
-    match answer {
-        Answer::Message(_) => false,
-        Answer::Wants => false,
-        Answer::Ready => true,
-        Answer::Nothing => false,
-        Answer::Refused(_, _) => false,
-    }
+    matches!(s.answer, Answer::Ready)
 }
 
 // What the state is told of a read.
 fn tell(s: Stream, b: Brought) -> Step
     ensures { result ≡ tell_of s b }
 {
-    if standard::failed(b) {
-        return refill::told_failed_of(s);
+    match b.last() {
+        Ok(n) => refill::told_of(s, n),
+        Err(_) => refill::told_failed_of(s),
     }
-    refill::told_of(s, standard::bytes(b))
 }
 
 // A turn: the state and the answer behind it, and what its read brought.
@@ -51,9 +44,9 @@ pub fn feed(input: Stdin, s: Stream, b: Brought, buf: &mut [u8]) -> Turn
             brought: b,
         };
     }
-    let state = room.state;
-    let end = state.end;
-    let brought = standard::read(input, b, &mut buf[end..]);
-    let step = tell(state, brought);
-    Turn { step, brought }
+    let brought = standard::read(input, b, &mut buf[room.state.end..]);
+    Turn {
+        step: tell(room.state, brought),
+        brought,
+    }
 }

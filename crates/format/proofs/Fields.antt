@@ -3,8 +3,9 @@
 use mathlib.Core.Path.{◌≡◌, refl, ap, sym, ◌∙◌}
 use mathlib.Core.List.{List, [], ◌∷◌}
 use mathlib.Core.Bool.{Bool, true, false, cond}
-use Prim.Native.Nat.{ℕ, ◌+◌, ◌<◌, ◌≤◌}
+use Prim.Native.Nat.{ℕ, ◌+◌, ◌%◌, ◌^◌, ◌<◌, ◌≤◌}
 use native.Mathlib.Omega.{arith}
+use Rattle.std.proofs.Math.Nat.{mod-eq_of_lt}
 use lib.Dec.{leb}
 use lib.ListN.{length, get_or}
 use lib.Seq.{drop-cons}
@@ -40,6 +41,11 @@ field-judged = judged-by false
 pub field-num : (w : ℕ) (s : List ℕ) (at : ℕ) {v : ℕ} → at + w ≤ length s → v ≡ be (part s at w) → got v ≡ field (num w) s at
 field-num = num-by false
 
+-- the last w bytes of a number of w bytes are the number
+pub field-low : (w : ℕ) (s : List ℕ) (at : ℕ) {v x : ℕ} → (at + w ≤ length s) × (v ≡ be (part s at w)) × (v < 256 ^ w) → x ≡ v % 256 ^ w
+    → got x ≡ field (num w) s at
+field-low w s at h e = field-num w s at h.0 (e ∙ mod-eq_of_lt h.2 ∙ h.1)
+
 -- a field that gave a value: its bytes are all there, and are judged to be it
 placed-fine : (t : Bool) (at : ℕ) (x : Verdict) (v : ℕ) → cond t (placed at x) short ≡ got v → (t ≡ true) × (x ≡ fine v)
 placed-fine true at (fine u) v e = (refl, cc)
@@ -51,6 +57,13 @@ unfolding field_by
 field-fine k s at {v} e =
     let h = placed-fine (leb (at + width k) (length s)) at (judge k (part s at (width k))) v e in
     (leb-true (at + width k) (length s) h.0, h.1)
+
+-- a number that was read: its bytes are there, and are it
+pub num-fine : (w : ℕ) (s : List ℕ) (at : ℕ) {v : ℕ} → got v ≡ field (num w) s at → (at + w ≤ length s) × (v ≡ be (part s at w))
+unfolding judge_by
+num-fine w s at e =
+    let h = field-fine (num w) s at (sym e) in
+    (h.0, cc h.1)
 
 pub field-text : (w : ℕ) (s : List ℕ) (at : ℕ) {v : ℕ} → at + w ≤ length s → v ≡ be (part s at w) → well_formed (part s at w) ≡ true
     → got v ≡ field (text w) s at
@@ -106,7 +119,7 @@ one_byte k s at {b} w e =
 -- a field that is short as a number of its width is short
 not_there : (t : Bool) (v : ℕ) (e : Fault) → cond t (got v) short ≡ fault_m e → (t ≡ false) × (fault_m e ≡ short)
 not_there true v Short q = let z : ◌≡◌ {A = ℕ} 0 1 = cc in absurd (omega arith)
-not_there true v (Refused n p) q = let z : ◌≡◌ {A = ℕ} 0 1 = cc in absurd (omega arith)
+not_there true v (Refused r) q = let z : ◌≡◌ {A = ℕ} 0 1 = cc in absurd (omega arith)
 not_there false v e q = (refl, sym q)
 
 pub num-short : (k : Kind) (w : ℕ) (s : List ℕ) (at : ℕ) (e : Fault) → width k ≡ w → field (num w) s at ≡ fault_m e → field k s at ≡ fault_m e

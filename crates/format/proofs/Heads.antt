@@ -53,11 +53,11 @@ field-time s at h = field-judged time s at h
 -- the header's values, the length with them
 pub header-reads : (s : List ℕ) → 13 ≤ length s → Reads s header 0 (be (part s 0 2) ∷ get_or s 2 0 ∷ be (part s 3 2) ∷ be (part s 5 2) ∷ be (part s 7 6) ∷ [])
 header-reads s h =
-    sym (field-num 2 s 0 (omega arith) refl)
-    ⨾ sym (field-num 1 s 2 (omega arith) (sym (be-one s 2 (omega arith))))
-    ⨾ sym (field-num 2 s 3 (omega arith) refl)
-    ⨾ sym (field-num 2 s 5 (omega arith) refl)
-    ⨾ field-time s 7 (omega arith)
+    field-num 2 s 0 (omega arith) refl
+    ⨾ field-num 1 s 2 (omega arith) (sym (be-one s 2 (omega arith)))
+    ⨾ field-num 2 s 3 (omega arith) refl
+    ⨾ field-num 2 s 5 (omega arith) refl
+    ⨾ sym (field-time s 7 (omega arith))
     ⨾ end
 
 -- strictly, with the time judged: what follows has the same values

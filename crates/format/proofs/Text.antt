@@ -3,9 +3,10 @@
 use mathlib.Core.Path.{◌≡◌, refl, ap, sym, ◌∙◌}
 use mathlib.Core.List.{List, [], ◌∷◌, ◌++◌}
 use mathlib.Core.Bool.{Bool, true, false, cond, ◌&&◌}
-use Prim.Native.Nat.{ℕ, zero, suc, ◌+◌, ◌*◌, ◌/◌, ◌^◌, ◌-◌, ◌<◌, ◌≤◌}
+use mathlib.Core.Logic.{◌⊎◌, inl, inr}
+use Prim.Native.Nat.{ℕ, zero, suc, ◌+◌, ◌*◌, ◌/◌, ◌%◌, ◌^◌, ◌-◌, ◌<◌, ◌≤◌}
 use native.Mathlib.Numerals.{add-one, sub-one}
-use native.Mathlib.Nat.{add-zero, add_assoc}
+use native.Mathlib.Nat.{zero-add, add-zero, add_assoc}
 use native.Mathlib.Omega.{arith}
 use lib.Bits.{bit_and, and_block, and_shr}
 use lib.Dec.{T, leb, leb→le, lit<}
@@ -15,7 +16,7 @@ use borrow.Author.Tests.{lt-ltb, le-ltb, leb-true, leb-false}
 use Rattle.format.specs.Layout.{be, part}
 use Rattle.format.specs.Utf8.{Utf, fresh, tail, bad, Lead, row, grammar, lead_in, lead, due, utf_step, utf_run, is_fresh, well_formed, begins_at, bad_from, first_bad}
 use Rattle.format.proofs.Tests.{both}
-use Rattle.format.proofs.Bytes.{Bytes, part-more, be-more}
+use Rattle.format.proofs.Bytes.{Bytes, part-more, be-more, be-below}
 
 -- a run over two parts, one after the other
 pub utf-append : (u : Utf) (xs ys : List ℕ) → utf_run u (xs ++ ys) ≡ utf_run (utf_run u xs) ys
@@ -142,3 +143,19 @@ pub ascii : (w : ℕ) (s : List ℕ) (at : ℕ) {v : ℕ} → Bytes s → at + w
     → well_formed (part s at w) ≡ true
 unfolding well_formed
 ascii w s at b h e z = ap is_fresh (ascii_run s at w b h (ap (λ n. bit_and n (highs w)) (sym e) ∙ z))
+
+-- of a number of four bytes, the high bits of all eight are those of the four
+pub ascii-text : (w : ℕ) (s : List ℕ) (at : ℕ) {v : ℕ} → (w ≡ 4) ⊎ (w ≡ 8) → Bytes s → at + w ≤ length s → v ≡ be (part s at w)
+    → bit_and v 0x8080808080808080 ≡ 0 → well_formed (part s at w) ≡ true
+ascii-text w s at {v} (inl q) b h e z =
+    let l : at + 4 ≤ length s = rw q at h in
+    let m : v ≡ be (part s at 4) = rw q at e in
+    let k : v < 256 ^ 4 = rw m (be-below s at 4 b l) in
+    let x : bit_and (0 * 2 ^ 32 + v) (highs 4 * 2 ^ 32 + highs 4) ≡ bit_and 0 (highs 4) * 2 ^ 32 + bit_and v (highs 4) = and_block 32 0 (highs 4) v (highs 4) k (lit< tt) in
+    let y : bit_and 0 (highs 4) * 2 ^ 32 + bit_and v (highs 4) ≡ 0 = sym x ∙ ap (λ n. bit_and n (highs 8)) (zero-add v) ∙ z in
+    rw q (ascii 4 s at b l m (omega arith))
+ascii-text w s at (inr q) b h e z = rw q (ascii 8 s at b (rw q at h) (rw q at e) z)
+
+pub even-text : {w : ℕ} → (w ≡ 4) ⊎ (w ≡ 8) → w % 2 ≡ 0
+even-text (inl q) = rw q
+even-text (inr q) = rw q

@@ -1,15 +1,16 @@
-// The leaves: big-endian numbers, text and the header at places of a byte window. Each answers an enum of its own: the field's value, or why
-// there is none. What a field is stands in specs/Layout; what an answer means, in specs/Meaning.
+// The leaves: big-endian numbers, text and the header at places of a byte window. Each answers the field's value, or why there is none. What a field is
+// stands in specs/Layout; what an answer means, in specs/Meaning.
 //
 // A place is a u8, so that `place + width` cannot wrap and no caller can break a leaf. The straight sums below are one load each once compiled
 // (docs/DECISIONS.md); one law over the width serves them all (proofs/Bytes).
 #![tactic(auto)]
 
-ghost use Rattle.std.specs.Prelude.{◌≡◌, cond, ◌+◌, ◌%◌, ◌^◌, ◌<◌, ◌≤◌, length};
+ghost use Rattle.std.specs.Prelude.{ℕ, ◌≡◌, ◌⊎◌, refl, ◌+◌, ◌*◌, ◌%◌, ◌^◌, ◌<◌, ◌≤◌, length};
+ghost use Rattle.std.proofs.Common.{inl, inr};
 ghost use Rattle.format.specs.Layout.{be, part, field, num, text};
 ghost use Rattle.format.specs.Utf8.{lead, utf_step, is_fresh, well_formed, begins_at, first_bad};
 ghost use Rattle.format.specs.Rows.{header_of};
-ghost use Rattle.format.specs.Meaning.{num8_m, num16_m, num32_m, num64_m, fault8, fault16, fault32, fault64, utf_m, header_m};
+ghost use Rattle.format.specs.Meaning.{IsWidth, bad, field_m, utf_m, header_m};
 
 // Which printing of the format: the old one, or the later ones, which have two messages more, h and O.
 #[derive(Clone, Copy)]
@@ -26,39 +27,28 @@ pub struct Reading {
     pub strict: bool,
 }
 
-// Why a field has no value: not all of its bytes are there, or it is refused, with the number and the place.
+// A refusal: its number in the document, and the place of the bytes that it is about.
+#[derive(Clone, Copy)]
+pub struct Refusal {
+    pub number: u8,
+    pub place: usize,
+}
+
+// A day, in nanoseconds: in a strict reading, a time is below it.
+pub const DAY: u64 = 86400000000000;
+
+// Why a field, a body or a message has no value: not all of its bytes are there, or it is refused.
 #[derive(Clone, Copy)]
 pub enum Fault {
     Short,
-    Refused(u8, usize),
+    Refused(Refusal),
 }
 
-// A byte that was read, or why there is none.
-#[derive(Clone, Copy)]
-pub enum Num8 {
-    Got(u8),
-    No(Fault),
-}
-
-// A number of two bytes that was read, or why there is none.
-#[derive(Clone, Copy)]
-pub enum Num16 {
-    Got(u16),
-    No(Fault),
-}
-
-// A number or a text of four bytes that was read, or why there is none.
-#[derive(Clone, Copy)]
-pub enum Num32 {
-    Got(u32),
-    No(Fault),
-}
-
-// A number or a text of eight bytes that was read, or why there is none.
-#[derive(Clone, Copy)]
-pub enum Num64 {
-    Got(u64),
-    No(Fault),
+// A fault that is a refusal.
+pub fn refused(number: u8, place: usize) -> Fault
+    ensures { result ≡ bad number place }
+{
+    Fault::Refused(Refusal { number, place })
 }
 
 // What stands before every body, without the length, which the reader ignores.
@@ -71,58 +61,109 @@ pub struct Header {
     pub timestamp: u64,
 }
 
-// The header that was read; short where fewer than 13 bytes are there.
-#[derive(Clone, Copy)]
-pub enum HeaderRead {
-    Got(Header),
-    Short,
+// A number that stands in a message as so many bytes, the first the highest.
+pub trait Number: Copy {
+    ghost WIDTH: { ℕ };
+    // The number that a value is.
+    ghost value: { Self → ℕ };
+
+    // How many bytes it has.
+    const WIDTH: usize;
+
+    // The last WIDTH bytes of a number.
+    fn low(v: u64) -> Self
+        ensures { value result ≡ v % 256 ^ WIDTH };
+
+    // The number itself.
+    fn wide(self) -> u64
+        ensures { (result ≡ value self) × (result < 256 ^ WIDTH) };
+
+    ghost width: { IsWidth WIDTH };
 }
 
-// Why an answer has no value. Short where it has one: nobody asks then.
-pub fn no_u8(f: Num8) -> Fault
-    ensures { result ≡ fault8 f }
-{
-    match f {
-        Num8::Got(_) => Fault::Short,
-        Num8::No(e) => e,
+impl Number for u8 {
+    ghost WIDTH = { 1 };
+
+    ghost value = { λ v. v };
+
+    const WIDTH: usize = 1;
+
+    fn low(v: u64) -> u8 {
+        (v % 0x100) as u8
     }
-}
 
-// The same of a number of two bytes.
-pub fn no_u16(f: Num16) -> Fault
-    ensures { result ≡ fault16 f }
-{
-    match f {
-        Num16::Got(_) => Fault::Short,
-        Num16::No(e) => e,
+    fn wide(self) -> u64 {
+        u64::from(self)
     }
+
+    ghost width = { inl refl };
 }
 
-// The same of four bytes.
-pub fn no_u32(f: Num32) -> Fault
-    ensures { result ≡ fault32 f }
-{
-    match f {
-        Num32::Got(_) => Fault::Short,
-        Num32::No(e) => e,
+impl Number for u16 {
+    ghost WIDTH = { 2 };
+
+    ghost value = { λ v. v };
+
+    const WIDTH: usize = 2;
+
+    fn low(v: u64) -> u16 {
+        (v % 0x10000) as u16
     }
-}
 
-// The same of eight bytes.
-pub fn no_u64(f: Num64) -> Fault
-    ensures { result ≡ fault64 f }
-{
-    match f {
-        Num64::Got(_) => Fault::Short,
-        Num64::No(e) => e,
+    fn wide(self) -> u64 {
+        u64::from(self)
     }
+
+    ghost width = { inr (inl refl) };
 }
 
-// A byte as a wider number, so that sums of bytes fit.
-fn wide(x: u8) -> u64
-    ensures { (result ≡ x) × (result < 256) }
-{
-    x as u64
+impl Number for u32 {
+    ghost WIDTH = { 4 };
+
+    ghost value = { λ v. v };
+
+    const WIDTH: usize = 4;
+
+    fn low(v: u64) -> u32 {
+        (v % 0x100000000) as u32
+    }
+
+    fn wide(self) -> u64 {
+        u64::from(self)
+    }
+
+    ghost width = { inr (inr (inl refl)) };
+}
+
+impl Number for u64 {
+    ghost WIDTH = { 8 };
+
+    ghost value = { λ v. v };
+
+    const WIDTH: usize = 8;
+
+    fn low(v: u64) -> u64 {
+        v
+    }
+
+    fn wide(self) -> u64 {
+        self
+    }
+
+    ghost width = { inr (inr (inr refl)) };
+}
+
+// A number that a text is kept as: of four bytes or of eight.
+pub trait Letters: Number {
+    ghost texts: { (Self.WIDTH ≡ 4) ⊎ (Self.WIDTH ≡ 8) };
+}
+
+impl Letters for u32 {
+    ghost texts = { inl refl };
+}
+
+impl Letters for u64 {
+    ghost texts = { inr refl };
 }
 
 // The number that two bytes are, the first the highest.
@@ -130,7 +171,7 @@ fn be2(s: &[u8], at: usize) -> u64
     requires { at + 2 ≤ length s.now }
     ensures { (result ≡ be (part s.now at 2)) × (result < 256 ^ 2) }
 {
-    wide(s[at]) * 256 + wide(s[at + 1])
+    u64::from(s[at]) * 256 + u64::from(s[at + 1])
 }
 
 // The number that four bytes are.
@@ -138,7 +179,8 @@ fn be4(s: &[u8], at: usize) -> u64
     requires { at + 4 ≤ length s.now }
     ensures { (result ≡ be (part s.now at 4)) × (result < 256 ^ 4) }
 {
-    ((wide(s[at]) * 256 + wide(s[at + 1])) * 256 + wide(s[at + 2])) * 256 + wide(s[at + 3])
+    ((u64::from(s[at]) * 256 + u64::from(s[at + 1])) * 256 + u64::from(s[at + 2])) * 256
+        + u64::from(s[at + 3])
 }
 
 // The number that eight bytes are: two halves.
@@ -149,48 +191,30 @@ fn be8(s: &[u8], at: usize) -> u64
     be4(s, at) * 4294967296 + be4(s, at + 4)
 }
 
-// The byte at a place, or short.
-pub fn be_u8(s: &[u8], place: u8) -> Num8
-    ensures { num8_m result ≡ field (num 1) s.now place }
+// The number that w bytes are. Compiled, the sums above are one load each, which a loop over the bytes is not. It is put into its caller
+// before anything else is done with it, so that the width is known then: else the sums of all widths are worked into one another, and none is one load.
+#[inline(always)]
+fn be(s: &[u8], at: usize, w: usize) -> u64
+    requires { (at + w ≤ length s.now) × IsWidth w }
+    ensures { (result ≡ be (part s.now at w)) × (result < 256 ^ w) }
 {
-    let at = place as usize;
-    if s.len() < at + 1 {
-        return Num8::No(Fault::Short);
+    match w {
+        8 => be8(s, at),
+        4 => be4(s, at),
+        2 => be2(s, at),
+        _ => u64::from(s[at]),
     }
-    Num8::Got(s[at])
 }
 
-// The number that the two bytes at a place are, the first the highest; or short.
-pub fn be_u16(s: &[u8], place: u8) -> Num16
-    ensures { num16_m result ≡ field (num 2) s.now place }
+// The number at a place; or short.
+pub fn number_at<T: Number>(s: &[u8], place: u8) -> Result<T, Fault>
+    ensures { field_m T.value result ≡ field (num T.WIDTH) s.now place }
 {
     let at = place as usize;
-    if s.len() < at + 2 {
-        return Num16::No(Fault::Short);
+    if s.len() < at + T::WIDTH {
+        return Err(Fault::Short);
     }
-    Num16::Got(be2(s, at) as u16)
-}
-
-// The number that the four bytes at a place are, or short.
-pub fn be_u32(s: &[u8], place: u8) -> Num32
-    ensures { num32_m result ≡ field (num 4) s.now place }
-{
-    let at = place as usize;
-    if s.len() < at + 4 {
-        return Num32::No(Fault::Short);
-    }
-    Num32::Got(be4(s, at) as u32)
-}
-
-// The number that the eight bytes at a place are, or short.
-pub fn be_u64(s: &[u8], place: u8) -> Num64
-    ensures { num64_m result ≡ field (num 8) s.now place }
-{
-    let at = place as usize;
-    if s.len() < at + 8 {
-        return Num64::No(Fault::Short);
-    }
-    Num64::Got(be8(s, at))
+    Ok(T::low(be(s, at, T::WIDTH)))
 }
 
 // Where a text stands between two bytes, by RFC 3629: between two sequences; n more bytes are due, the next from lo to hi; not UTF-8.
@@ -260,23 +284,19 @@ fn utf_step(u: Utf, b: u8) -> Utf
 fn is_fresh(u: Utf) -> bool
     ensures { result ≡ is_fresh (utf_m u) }
 {
-    match u {
-        Utf::Fresh => true,
-        Utf::Tail(_, _, _) => false,
-        Utf::Bad => false,
-    }
+    matches!(u, Utf::Fresh)
 }
 
 // The check proper, of four bytes or eight: one function for both texts, and a large one, so that it stays out of their way.
-fn well_formed(s: &[u8], at: usize, eight: bool) -> bool
-    requires { at + 4 + cond eight 4 0 ≤ length s.now }
-    ensures { result ≡ well_formed (part s.now at (cond eight 8 4)) }
+fn well_formed(s: &[u8], at: usize, w: usize) -> bool
+    requires { (at + w ≤ length s.now) × ((w ≡ 4) ⊎ (w ≡ 8)) }
+    ensures { result ≡ well_formed (part s.now at w) }
 {
     let after1 = utf_step(Utf::Fresh, s[at]);
     let after2 = utf_step(after1, s[at + 1]);
     let after3 = utf_step(after2, s[at + 2]);
     let after4 = utf_step(after3, s[at + 3]);
-    if eight {
+    if w == 8 {
         let after5 = utf_step(after4, s[at + 4]);
         let after6 = utf_step(after5, s[at + 5]);
         let after7 = utf_step(after6, s[at + 6]);
@@ -299,7 +319,7 @@ fn begins_at(u: Utf, from: usize, i: usize) -> usize
 }
 
 // The place where the first bad sequence begins of the text of w bytes at a place; the one behind the text if there is none. Only who refuses a text asks
-// this. Two bytes a turn make it too large to be compiled into the texts, as the check is.
+// this. Two bytes a turn, counted by hand, make it too large to be compiled into the texts, as the check is.
 fn first_bad(s: &[u8], at: usize, w: usize) -> usize
     requires { (at + w ≤ length s.now) × (w % 2 ≡ 0) }
     ensures { result ≡ at + first_bad (part s.now at w) }
@@ -319,54 +339,32 @@ fn first_bad(s: &[u8], at: usize, w: usize) -> usize
     begins_at(u, from, i)
 }
 
-// The text of four bytes at a place, kept as the number that its bytes are; or short, or 3, where its first bad sequence begins. Where no byte has its high
+// The text at a place, kept as the number that its bytes are; or short, or 3, where its first bad sequence begins. Where no byte has its high
 // bit set, it is ASCII and nothing else is looked at.
-pub fn text4(s: &[u8], place: u8) -> Num32
-    ensures { num32_m result ≡ field (text 4) s.now place }
+pub fn text_at<T: Letters>(s: &[u8], place: u8) -> Result<T, Fault>
+    ensures { field_m T.value result ≡ field (text T.WIDTH) s.now place }
 {
+    let v: T = number_at(s, place)?;
+    if v.wide() & 0x8080808080808080 == 0 {
+        return Ok(v);
+    }
     let at = place as usize;
-    if s.len() < at + 4 {
-        return Num32::No(Fault::Short);
-    }
-    let v = be4(s, at);
-    if v & 0x80808080 == 0 {
-        return Num32::Got(v as u32);
-    }
-    if well_formed(s, at, false) {
-        Num32::Got(v as u32)
+    if well_formed(s, at, T::WIDTH) {
+        Ok(v)
     } else {
-        Num32::No(Fault::Refused(3, first_bad(s, at, 4)))
+        Err(refused(3, first_bad(s, at, T::WIDTH)))
     }
 }
 
-// The same of eight bytes.
-pub fn text8(s: &[u8], place: u8) -> Num64
-    ensures { num64_m result ≡ field (text 8) s.now place }
-{
-    let at = place as usize;
-    if s.len() < at + 8 {
-        return Num64::No(Fault::Short);
-    }
-    let v = be8(s, at);
-    if v & 0x8080808080808080 == 0 {
-        return Num64::Got(v);
-    }
-    if well_formed(s, at, true) {
-        Num64::Got(v)
-    } else {
-        Num64::No(Fault::Refused(3, first_bad(s, at, 8)))
-    }
-}
-
-// The 13 bytes before a body, or short. Tracking number and timestamp are read as one number of eight bytes: no form of a six-byte read is one load.
-pub fn read_header(s: &[u8]) -> HeaderRead
+// The 13 bytes before a body, if they are there. Tracking number and timestamp are read as one number of eight bytes: no form of a six-byte read is one load.
+pub fn read_header(s: &[u8]) -> Option<Header>
     ensures { header_m result ≡ header_of s.now }
 {
     if s.len() < 13 {
-        return HeaderRead::Short;
+        return None;
     }
     let v = be8(s, 5);
-    HeaderRead::Got(Header {
+    Some(Header {
         tag: s[2],
         stock_locate: be2(s, 3) as u16,
         tracking_number: (v / 0x1000000000000) as u16,

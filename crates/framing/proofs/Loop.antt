@@ -1,12 +1,13 @@
 -- What the program's loops keep, over plain values.
 -- Assumes nothing.
-use Prim.Native.Nat.{ℕ, zero, suc, ◌≤◌, ◌<◌, ◌-◌, ◌+◌}
+use Prim.Native.Nat.{ℕ, ◌≤◌, ◌<◌, ◌-◌, ◌+◌}
 use mathlib.Core.Path.{◌≡◌, refl, sym, ap, subst, ◌∙◌}
 use mathlib.Core.Bool.{Bool, true, false, false≢true}
 use mathlib.Core.List.{List, [], ◌∷◌, ◌++◌, append_assoc}
 use mathlib.Core.Logic.{◌⊎◌, inl, inr, ⊎_elim}
 use native.Mathlib.Omega.{arith}
 use lib.ListN.{length, take, drop}
+use Rattle.std.specs.Prelude.{Result, Ok, Err}
 use lib.Seq.{length-sets, length-take-le}
 use Rattle.format.specs.declared.Reading.{Reading}
 use Rattle.reader.specs.Window.{window_of}
@@ -21,11 +22,11 @@ use Rattle.lines.specs.Blocks.{stops_of, call_of, Called}
 use Rattle.lines.proofs.Kept.{kept, went}
 use Rattle.output.specs.Calls.{next, call, Since, Over}
 use Rattle.standard.specs.declared.Brought.{Brought}
-use Rattle.standard.specs.Reads.{Reads}
+use Rattle.standard.specs.Reads.{Reads, bytes_of}
 use Rattle.framing.specs.declared.sent.Sent.{Sent}
-use Rattle.framing.specs.declared.Turn.{Turn}
+use Rattle.framing.specs.declared.Run.{Run}
 use Rattle.framing.specs.Texts.{Lines, Closes}
-use Rattle.framing.specs.Told.{Behind, ReadSome, Ended}
+use Rattle.framing.specs.Told.{Walked, Short, Behind, Fresh, Ended}
 use Rattle.framing.proofs.Stops.{reached-sane, reaches, refused-33}
 
 -- ---- over a block
@@ -82,25 +83,20 @@ module _ (q : Bool) (rd : Reading) (b : List ℕ) (w₀ w : Walk) (i : ℕ) (out
       subst (λ (e : Reading). (step_of (window_of e) r.state (drop r.from b)).answer ≡ Refused 33) (sym (reached-reading called-reached)) z
 
   -- the call is the last, and leads to what was sent
-  pub in-short : (x : Sent) → x.quiet ≡ q → x.state ≡ r.state → (x.written.taken ≡ false) ⊎ (stops_of r.why ≡ true) → Behind q rd b w₀ x false
+  pub in-short : (x : Sent) → x.quiet ≡ q → x.state ≡ r.state → (x.written.taken ≡ false) ⊎ (stops_of r.why ≡ true) → Short q rd b w₀ x
   in-short x u e y =
       record {
         told = u;
         reached = rw e called-reached;
-        good = λ e. absurd (false≢true e);
-        calls = λ e. absurd (false≢true e);
-        bytes = λ e. absurd (false≢true e);
-        short = λ _. record {
-          place = i;
-          state = w;
-          since = I.since;
-          out = out;
-          after = after;
-          answer = r;
-          called = C;
-          sent = e;
-          why = ⊎_elim inl (λ s. inr (rw e (called-33 s))) y;
-        };
+        place = i;
+        state = w;
+        since = I.since;
+        out = out;
+        after = after;
+        answer = r;
+        called = C;
+        sent = e;
+        why = ⊎_elim inl (λ s. inr (rw e (called-33 s))) y;
       }
 
 -- the lines of a call are of the kind that all before were
@@ -109,34 +105,17 @@ pub lines-of : (q : Bool) (s : Sent) (b : List ℕ) (i : ℕ) (out after : List 
 lines-of q s b i out after r u t C =
     record { good = t; out = out; after = after; called = subst (λ (y : Bool). Called y (window_of s.state.reading) s.state b i out 0 after r) (sym u) C; lines = refl }
 
-pub as-asked : {q p : Bool} {rd : Reading} {b : List ℕ} {w : Walk} {x : Sent} {whole : Bool} → q ≡ p → Behind q rd b w x whole → Behind p rd b w x whole
-as-asked {rd = rd} {b} {w} {x} {whole} e B = subst (λ (y : Bool). Behind y rd b w x whole) e B
-
-pub in_end : (q : Bool) (rd : Reading) (b : List ℕ) (w₀ : Walk) (x : Sent) (i : ℕ) → In q rd b w₀ x.state i → length b ≤ i → x.quiet ≡ q → x.written.taken ≡ true → Behind q rd b w₀ x true
+pub in_end : (q : Bool) (rd : Reading) (b : List ℕ) (w₀ : Walk) (x : Sent) (i : ℕ) → In q rd b w₀ x.state i → length b ≤ i → x.quiet ≡ q → x.written.taken ≡ true → Walked q rd b w₀ x
 in_end q rd b w₀ x i I h u t =
     record {
       told = u;
       reached = I.reached;
-      good = λ e. t;
-      calls = λ e. record { texts = I.since.texts; rest = λ {qs} {ts} {w'} c. I.since.rest (next b i h c) };
-      bytes = λ e. omega (arith, I.bytes, I.inside);
-      short = λ e. absurd (false≢true (sym e));
+      good = t;
+      calls = record { texts = I.since.texts; rest = λ {qs} {ts} {w'} c. I.since.rest (next b i h c) };
+      bytes = omega (arith, I.bytes, I.inside);
     }
 
 -- ---- over the blocks
-
--- a read that brought nothing, and one that brought n bytes
-pub read_none : (s : Sent) (u v : Brought) (buf : List ℕ) (n : ℕ) → Reads u (length buf) v → n ≡ v.bytes → n ≡ 0
-    → ReadSome s u (record { sent = s; brought = v; whole = true; more = false }) buf
-read_none s u v buf n m e z = record { reads = m; none = λ _. (refl, refl, refl); some = λ f. absurd (f (sym e ∙ z)) }
-
-pub read_some : (s : Sent) (u v : Brought) (buf : List ℕ) (n : ℕ) (x : Sent) (whole : Bool) → Reads u (length buf) v → n ≡ v.bytes → (n ≡ 0 → ⊥)
-    → Behind s.quiet s.state.reading (take n buf) s.state x whole → ReadSome s u (record { sent = x; brought = v; whole = whole; more = whole }) buf
-read_some s u v buf n x whole m e z B = record {
-  reads = m;
-  none = λ f. absurd (z (e ∙ f));
-  some = λ _. (subst (λ (k : ℕ). Behind s.quiet s.state.reading (take k buf) s.state x whole) e B, refl);
-}
 
 -- from the fresh state on, by one reading
 pub record SoFar (q : Bool) (rd : Reading) (s : Sent) (v : Brought) : Type 0 where
@@ -147,14 +126,14 @@ pub record SoFar (q : Bool) (rd : Reading) (s : Sent) (v : Brought) : Type 0 whe
   pub reached : Reached (window_of rd) rd s.state
   pub good : s.written.taken ≡ true
 
-pub so-far-start : (q : Bool) (rd : Reading) (s : Sent) (v : Brought) → s.quiet ≡ q → s.state ≡ fresh_of rd → s.written.taken ≡ true → v.total ≡ 0 → SoFar q rd s v
-so-far-start q rd s v u e t z = record {
-  told = u;
-  total = z ∙ ap (λ (w : Walk). w.offset + w.seen) (sym e);
+pub so-far-start : (s : Sent) (v : Brought) → Fresh s → v.total ≡ 0 → SoFar s.quiet s.state.reading s v
+so-far-start s v f z = record {
+  told = refl;
+  total = z ∙ ap (λ (w : Walk). w.offset + w.seen) (sym f.state);
   pieces = [];
-  over = rw e (record { texts = []; rest = λ c. c });
-  reached = rw e start;
-  good = t;
+  over = rw f.state (record { texts = []; rest = λ c. c });
+  reached = rw f.state start;
+  good = f.good;
 }
 
 over-again : (q : Bool) (rd : Reading) (ps qs : List (List ℕ)) (w₀ w w' : Walk) → Over q (window_of rd) ps w₀ w → Over q (window_of rd) qs w w' → Over q (window_of rd) (ps ++ qs) w₀ w'
@@ -164,81 +143,64 @@ over-again q rd ps qs w₀ w w' F G =
       rest = λ {qs = rs} {ts} {w' = x} c. rw (append_assoc ps qs rs, append_assoc F.texts G.texts ts) (F.rest (G.rest c));
     }
 
-zero_or : (n : ℕ) → (n ≡ 0) ⊎ (n ≡ 0 → ⊥)
-zero_or zero = inl refl
-zero_or (suc n) = inr (λ e. omega arith)
-
-module _ (q : Bool) (rd : Reading) (s : Sent) (v : Brought) (t : Turn) (buf : List ℕ) (R : SoFar q rd s v) (B : ReadSome s v t buf) where
-  abbrev n : ℕ
-  n = t.brought.bytes
-
-  -- there may be more
-  came : t.more ≡ true → n ≡ 0 → ⊥
-  came m z = false≢true (sym (B.none z).2 ∙ m)
-
-  -- what the turn told, quiet or not and by the reading as asked at the start
-  behind : (n ≡ 0 → ⊥) → Behind q rd (take n buf) s.state t.sent t.whole
-  behind f =
-      subst (λ (x : Bool × Reading). Behind x.0 x.1 (take n buf) s.state t.sent t.whole)
-      (λ i. (R.told i, reached-reading R.reached i)) (B.some f).0
-
-  turn-whole : t.more ≡ true → t.whole ≡ true
-  turn-whole m = sym (B.some (came m)).1 ∙ m
-
-  walked : t.more ≡ true → t.sent.state.offset + t.sent.state.seen ≡ s.state.offset + s.state.seen + n
-  walked m = omega (arith, (B.some (came m)).0.bytes (turn-whole m), length-take-le n buf B.reads.fits)
-
-  pub turn-went : t.more ≡ true → s.state.offset + s.state.seen < t.sent.state.offset + t.sent.state.seen
-  turn-went m = omega (arith, walked m, came m)
-
-  pub so-far-on : t.more ≡ true → SoFar q rd t.sent t.brought
-  so-far-on m =
-      let D = behind (came m) in
+-- one read more: it brought nothing, or its bytes were walked to their end, or they were not
+module _ (q : Bool) (rd : Reading) (s : Sent) (v u : Brought) (buf : List ℕ) (n : ℕ) (R : SoFar q rd s v) (B : Reads v (length buf) u) (e : n ≡ bytes_of u) where
+  pub so-far-silent : 0 < length buf → n ≡ 0 → Ended q rd (record { sent = s; brought = u; whole = true })
+  so-far-silent l z = record {
+    told = R.told;
+    reached = R.reached;
+    pieces = R.pieces;
+    last = s.state;
+    over = R.over;
+    all = λ _. (
+      refl,
+      R.good,
       record {
-        told = D.told;
-        total = omega (arith, B.reads.total, R.total, walked m, (reached-sane D.reached).bytes);
-        pieces = R.pieces ++ (take n buf ∷ []);
-        over = over-again q rd R.pieces (take n buf ∷ []) (fresh_of rd) s.state t.sent.state R.over (D.calls (turn-whole m));
-        reached = D.reached;
-        good = D.good (turn-whole m);
-      }
+        silent = record { asked = omega (arith, B.room); none = sym e ∙ z };
+        total = omega (arith, B.total, R.total, e, (reached-sane R.reached).bytes);
+      },
+    );
+    piece = [];
+    short = λ f. absurd (false≢true (sym f));
+  }
 
-  pub so-far-ended : t.more ≡ false → 0 < length buf → Ended q rd t
-  so-far-ended m l =
-      ⊎_elim
-      (λ z.
-      let e = B.none z in
+  -- what was sent, quiet or not and by the reading as asked at the start
+  as-asked : (r : Result Sent Sent) → Behind s.quiet s.state.reading (take n buf) s.state r → Behind q rd (take n buf) s.state r
+  as-asked r =
+      subst (λ (x : Bool × Reading). Behind x.0 x.1 (take n buf) s.state r) (λ i. (R.told i, reached-reading R.reached i))
+
+  module _ (t : Sent) (D : Walked s.quiet s.state.reading (take n buf) s.state t) where
+    walked : t.state.offset + t.state.seen ≡ s.state.offset + s.state.seen + n
+    walked = omega (arith, D.bytes, length-take-le n buf (omega (arith, B.fits, e)))
+
+    pub so-far-went : (n ≡ 0 → ⊥) → s.state.offset + s.state.seen < t.state.offset + t.state.seen
+    so-far-went f = omega (arith, walked, f)
+
+    pub so-far-on : SoFar q rd t u
+    so-far-on =
+        let E : Walked q rd (take n buf) s.state t = as-asked (Ok t) D in
+        record {
+          told = E.told;
+          total = omega (arith, B.total, R.total, walked, e, (reached-sane E.reached).bytes);
+          pieces = R.pieces ++ (take n buf ∷ []);
+          over = over-again q rd R.pieces (take n buf ∷ []) (fresh_of rd) s.state t.state R.over E.calls;
+          reached = E.reached;
+          good = E.good;
+        }
+
+  pub so-far-short : (t : Sent) → Short s.quiet s.state.reading (take n buf) s.state t → Ended q rd (record { sent = t; brought = u; whole = false })
+  so-far-short t D =
+      let E : Short q rd (take n buf) s.state t = as-asked (Err t) D in
       record {
-        told = ap (λ (x : Sent). x.quiet) e.0 ∙ R.told;
-        reached = rw e.0 R.reached;
+        told = E.told;
+        reached = E.reached;
         pieces = R.pieces;
         last = s.state;
         over = R.over;
-        all = λ _. (
-          ap (λ (x : Sent). x.state) e.0,
-          ap (λ (x : Sent). x.written.taken) e.0 ∙ R.good,
-          record {
-            silent = record { asked = omega (arith, B.reads.room); none = z };
-            total = omega (arith, B.reads.total, R.total, (reached-sane R.reached).bytes, ap (λ (x : Sent). x.state.offset + x.state.seen) e.0);
-          },
-        );
-        piece = [];
-        short = λ f. absurd (false≢true (sym f ∙ e.1));
-      })
-      (λ f.
-      let D = behind f in
-      let w : t.whole ≡ false = sym (B.some f).1 ∙ m in
-      record {
-        told = D.told;
-        reached = D.reached;
-        pieces = R.pieces;
-        last = s.state;
-        over = R.over;
-        all = λ e. absurd (false≢true (sym w ∙ e));
+        all = λ e. absurd (false≢true e);
         piece = take n buf;
-        short = D.short;
-      })
-      (zero_or n)
+        short = λ _. E;
+      }
 
 -- ---- the closing lines
 
@@ -246,7 +208,7 @@ by_whole : {A : Type 0} (b : Bool) → (b ≡ true → A) → (b ≡ false → A
 by_whole true f g = f refl
 by_whole false f g = g refl
 
-pub closes : (q : Bool) (rd : Reading) (t : Turn) (text : List ℕ) → Ended q rd t → t.sent.written.taken ≡ true
+pub closes : (q : Bool) (rd : Reading) (t : Run) (text : List ℕ) → Ended q rd t → t.sent.written.taken ≡ true
     → text ≡ closing_of t.sent.state.offset t.sent.state.seen t.sent.state.frames t.sent.state.accepted → Closes t.sent t.brought text
 closes q rd t text E f e = record {
   good = f;

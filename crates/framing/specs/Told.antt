@@ -1,9 +1,9 @@
 -- What the functions of the program owe, up to what is read and written.
 -- Assumes nothing.
-use Rattle.std.specs.Prelude.{ℕ, ◌+◌, ◌≡◌, Bool, true, false, cond, List, [], ◌∷◌, ◌⊎◌, ltb, length, take, drop}
+use Rattle.std.specs.Prelude.{ℕ, ◌+◌, ◌≡◌, Bool, true, false, cond, List, [], ◌∷◌, ◌⊎◌, ltb, length, drop, Result, Ok, Err}
 use Rattle.format.specs.declared.Reading.{Reading}
 use Rattle.standard.specs.declared.Brought.{Brought}
-use Rattle.standard.specs.Reads.{Reads}
+use Rattle.standard.specs.Reads.{has_failed}
 use Rattle.reader.specs.Window.{window_of}
 use Rattle.walk.specs.declared.Walk.{Walk}
 use Rattle.walk.specs.declared.Answer.TheVariants.{Refused}
@@ -16,12 +16,14 @@ use Rattle.output.specs.Calls.{Since, Over}
 use Rattle.words.specs.declared.Ending.{Ending}
 use Rattle.words.specs.declared.Ending.TheVariants.{Clean, Found, Failed}
 use Rattle.framing.specs.declared.sent.Sent.{Sent}
-use Rattle.framing.specs.declared.Turn.{Turn}
+use Rattle.framing.specs.declared.Run.{Run}
 use Rattle.framing.specs.Texts.{AllWalked}
 
--- A block b that was not walked to its end from w on: calls led to a state and a place in it, and of the call from there, which is the last, the write
--- was not taken, or the step behind it refuses 33.
+-- A block b that was not walked to its end from w on by a reading, and what was sent: calls led to a state and a place in it, and of the call from there,
+-- which is the last, the write was not taken, or the step behind it refuses 33.
 pub record Short (quiet : Bool) (rd : Reading) (b : List ℕ) (w : Walk) (s : Sent) : Type 0 where
+  pub told : s.quiet ≡ quiet
+  pub reached : Reached (window_of rd) rd s.state
   pub place : ℕ
   pub state : Walk
   pub since : Since quiet (window_of rd) w b 0 state place
@@ -32,24 +34,27 @@ pub record Short (quiet : Bool) (rd : Reading) (b : List ℕ) (w : Walk) (s : Se
   pub sent : s.state ≡ answer.state
   pub why : (s.written.taken ≡ false) ⊎ ((own_step s.state (drop answer.from b)).answer ≡ Refused 33)
 
--- a block b walked from w on by a reading, and what was sent: where `whole`, calls over it and the writes of their texts lie between, and all were taken
-pub record Behind (quiet : Bool) (rd : Reading) (b : List ℕ) (w : Walk) (s : Sent) (whole : Bool) : Type 0 where
+-- a block b that was walked to its end: calls over it and the writes of their texts lie between, and all were taken
+pub record Walked (quiet : Bool) (rd : Reading) (b : List ℕ) (w : Walk) (s : Sent) : Type 0 where
   pub told : s.quiet ≡ quiet
   pub reached : Reached (window_of rd) rd s.state
-  pub good : whole ≡ true → s.written.taken ≡ true
-  pub calls : whole ≡ true → Over quiet (window_of rd) (b ∷ []) w s.state
-  pub bytes : whole ≡ true → s.state.offset + s.state.seen ≡ w.offset + w.seen + length b
-  pub short : whole ≡ false → Short quiet rd b w s
+  pub good : s.written.taken ≡ true
+  pub calls : Over quiet (window_of rd) (b ∷ []) w s.state
+  pub bytes : s.state.offset + s.state.seen ≡ w.offset + w.seen + length b
 
--- a turn: where its read brought nothing, that is all; where it brought bytes these are the block, and there may be more if it was walked whole
-pub record ReadSome (s : Sent) (v : Brought) (t : Turn) (buf : List ℕ) : Type 0 where
-  pub reads : Reads v (length buf) t.brought
-  pub none : t.brought.bytes ≡ 0 → (t.sent ≡ s) × (t.whole ≡ true) × (t.more ≡ false)
-  pub some : (t.brought.bytes ≡ 0 → ⊥) → Behind s.quiet s.state.reading (take t.brought.bytes buf) s.state t.sent t.whole × (t.more ≡ t.whole)
+-- the one or the other
+abbrev pub Behind : Bool → Reading → List ℕ → Walk → Result Sent Sent → Type 0
+Behind quiet rd b w (Ok s) = Walked quiet rd b w s
+Behind quiet rd b w (Err s) = Short quiet rd b w s
+
+-- nothing was sent, and the walk is fresh
+pub record Fresh (s : Sent) : Type 0 where
+  pub state : s.state ≡ fresh_of s.state.reading
+  pub good : s.written.taken ≡ true
 
 -- At the end of all reads: calls by one reading over the pieces that they brought, from the fresh state on. Where all is whole they lead to the state that was sent, and
 -- all that the reads brought is walked; where it is not, to a state from which a further piece was not walked to its end.
-pub record Ended (quiet : Bool) (rd : Reading) (t : Turn) : Type 0 where
+pub record Ended (quiet : Bool) (rd : Reading) (t : Run) : Type 0 where
   pub told : t.sent.quiet ≡ quiet
   pub reached : Reached (window_of rd) rd t.sent.state
   pub pieces : List (List ℕ)
@@ -71,6 +76,6 @@ pub data Finished (quiet : Bool) (rd : Reading) (s : Sent) : Type 0 where
 abbrev pub ending_of : Sent → Brought → Bool → Ending
 ending_of s b all =
     cond s.written.taken
-    (cond b.failed Failed
+    (cond (has_failed b) Failed
     (cond all (cond (ltb 0 s.state.seen) Found (cond (ltb s.state.accepted s.state.frames) Found Clean)) Found))
     Failed

@@ -10,23 +10,20 @@ fn tail(offset: u64, left: usize, out: &mut [u8], at: usize) -> usize
     requires { at + 47 ≤ length out.old }
     ensures { Wrote (tail_of offset left) out.old at out.new result }
 {
-    let a = text::word(b't', b'a', b'i', b'l', out, at);
-    let b = text::byte(b' ', out, a);
-    let c = text::number(offset, b' ', out, b);
-    text::number(left as u64, b'\n', out, c)
+    let a = text::bytes(b"tail ", out, at);
+    let b = text::number(offset, b' ', out, a);
+    text::number(left as u64, b'\n', out, b)
 }
 
 fn total(frames: u64, accepted: u64, refused: u64, bytes: u64, out: &mut [u8], at: usize) -> usize
     requires { at + 90 ≤ length out.old }
     ensures { Wrote (total_of frames accepted refused bytes) out.old at out.new result }
 {
-    let a = text::word(b't', b'o', b't', b'a', out, at);
-    let b = text::byte(b'l', out, a);
-    let c = text::byte(b' ', out, b);
-    let d = text::number(frames, b' ', out, c);
-    let e = text::number(accepted, b' ', out, d);
-    let f = text::number(refused, b' ', out, e);
-    text::number(bytes, b'\n', out, f)
+    let a = text::bytes(b"total ", out, at);
+    let b = text::number(frames, b' ', out, a);
+    let c = text::number(accepted, b' ', out, b);
+    let d = text::number(refused, b' ', out, c);
+    text::number(bytes, b'\n', out, d)
 }
 
 // The tail and the totals of a state that a walk comes to, at the buffer's start: at most 137 bytes.
@@ -34,12 +31,8 @@ pub(super) fn closing(w: Walk, out: &mut [u8]) -> usize
     requires { Sane w × (137 ≤ length out.old) }
     ensures { Wrote (closing_of w.offset w.seen w.frames w.accepted) out.old 0 out.new result }
 {
-    let offset = w.offset;
-    let seen = w.seen;
-    let frames = w.frames;
-    let accepted = w.accepted;
-    let next = tail(offset, seen, out, 0);
-    let refused = frames - accepted;
-    let bytes = offset + seen as u64;
-    total(frames, accepted, refused, bytes, out, next)
+    let next = tail(w.offset, w.seen, out, 0);
+    let refused = w.frames - w.accepted;
+    let bytes = w.offset + w.seen as u64;
+    total(w.frames, w.accepted, refused, bytes, out, next)
 }

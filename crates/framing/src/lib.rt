@@ -6,7 +6,7 @@ ghost use Rattle.std.specs.Prelude.{◌≤◌, ◌<◌, ◌≡◌, true, length}
 ghost use Rattle.reader.specs.Window.{window_of};
 ghost use Rattle.demand.specs.Promises.{Reached};
 ghost use Rattle.words.specs.Words.{reading_of};
-ghost use Rattle.framing.specs.Told.{Behind, ReadSome, Ended, Finished, ending_of};
+ghost use Rattle.framing.specs.Told.{Behind, Fresh, Ended, Finished, ending_of};
 
 mod closing;
 mod sent;
@@ -18,144 +18,88 @@ use std::io::{Stderr, Stdin, Stdout};
 use std::rt::{Env, Files};
 use words::{Ending, Words};
 
-// What was sent, up to a state; and whether all bytes were walked and all of their lines written.
-#[derive(Clone, Copy)]
-struct Put {
-    sent: Sent,
-    whole: bool,
-}
-
-// Walks a block, and writes the lines of the frames that end in it, a buffer at a time.
-fn put_block(output: Stdout, s: Sent, block: &[u8], out: &mut [u8]) -> Put
+// Walks a block, and writes the lines of the frames that end in it, a buffer at a time. Answers what was sent: up to the block's end, or, where a write was
+// not taken or the walk can no further, up to there.
+fn put_block(s: Sent, block: &[u8], out: &mut [u8]) -> Result<Sent, Sent>
     requires { Reached (window_of s.state.reading) s.state.reading s.state × (s.written.taken ≡ true) × (137 ≤ length out.old) }
-    ensures { Behind s.quiet s.state.reading block.now s.state result.sent result.whole }
+    ensures { Behind s.quiet s.state.reading block.now s.state result }
 {
-    let quiet = sent::quiet(s);
+    let quiet = s.quiet();
     let mut sent = s;
     let mut from = 0;
     while from < block.len() {
-        let w = sent::state(sent);
-        let r = lines::walk_block(w, block, from, out, 0, quiet);
+        let r = lines::walk_block(sent.state(), block, from, out, 0, quiet);
         let at = r.at;
-        let then = r.from;
-        let why = r.why;
-        let next = sent::put(output, sent, block, from, r, &out[..at]);
-        if !sent::taken(next) {
-            return Put {
-                sent: next,
-                whole: false,
-            };
-        }
-        if lines::stops(why) {
-            return Put {
-                sent: next,
-                whole: false,
-            };
+        let next = sent.put(block, from, r, &out[..at]);
+        if !next.taken() || lines::stops(r.why) {
+            return Err(next);
         }
         sent = next;
-        from = then;
+        from = r.from;
     }
-    Put { sent, whole: true }
+    Ok(sent)
 }
 
-// A turn: what was sent behind it, what its read brought, and whether there may be more.
+// All reads: what was sent behind them, what they brought, and whether all of it was walked and all of its lines written.
 #[derive(Clone, Copy)]
-struct Turn {
+struct Run {
     sent: Sent,
     brought: Brought,
     whole: bool,
-    more: bool,
 }
 
-// One read, and the frames that end in it.
-fn read_some(
-    input: Stdin,
-    output: Stdout,
-    s: Sent,
-    b: Brought,
-    buf: &mut [u8],
-    out: &mut [u8],
-) -> Turn
-    requires { Reached (window_of s.state.reading) s.state.reading s.state × (s.written.taken ≡ true) × (137 ≤ length out.old) }
-    ensures { ReadSome s b result buf.new }
+// Reads to the end, from what was sent first on, and walks the frames that end in each read.
+fn read_all(input: Stdin, begun: Sent, buf: &mut [u8], out: &mut [u8]) -> Run
+    requires { Fresh begun × (0 < length buf.old) × (137 ≤ length out.old) }
+    ensures { Ended begun.quiet begun.state.reading result }
 {
-    let brought = standard::read(input, b, buf);
-    let n = standard::bytes(brought);
-    if n == 0 {
-        return Turn {
-            sent: s,
-            brought,
-            whole: true,
-            more: false,
-        };
-    }
-    let r = put_block(output, s, &buf[..n], out);
-    let sent = r.sent;
-    Turn {
-        sent,
-        brought,
-        whole: r.whole,
-        more: r.whole,
-    }
-}
-
-// Reads to the end, all by one reading.
-fn read_all(
-    input: Stdin,
-    output: Stdout,
-    quiet: bool,
-    buf: &mut [u8],
-    out: &mut [u8],
-    reading: Reading,
-) -> Turn
-    requires { (0 < length buf.old) × (137 ≤ length out.old) }
-    ensures { Ended quiet reading result }
-{
-    let mut sent = sent::begun(quiet, reading);
-    let mut b = standard::unread();
+    let mut sent = begun;
+    let mut brought = Brought::unread();
     loop {
-        let t = read_some(input, output, sent, b, buf, out);
-        let next = t.sent;
-        let brought = t.brought;
-        if !t.more {
-            return t;
+        brought = standard::read(input, brought, buf);
+        let n = brought.count();
+        if n == 0 {
+            return Run {
+                sent,
+                brought,
+                whole: true,
+            };
         }
-        sent = next;
-        b = brought;
+        match put_block(sent, &buf[..n], out) {
+            Ok(next) => sent = next,
+            Err(last) => {
+                return Run {
+                    sent: last,
+                    brought,
+                    whole: false,
+                };
+            }
+        }
     }
 }
 
 // How the run went: a write was not taken, or the last read failed; something was refused or is left over, or the walk could no further; or none of it.
-fn went(s: Sent, b: Brought, whole: bool) -> Ending
-    ensures { result ≡ ending_of s b whole }
+fn went(run: Run) -> Ending
+    ensures { result ≡ ending_of run.sent run.brought run.whole }
 {
-    if !sent::taken(s) {
-        return Ending::Failed;
+    let w = run.sent.state();
+    if !run.sent.taken() || run.brought.failed() {
+        Ending::Failed
+    } else if !run.whole || w.seen > 0 || w.accepted < w.frames {
+        Ending::Found
+    } else {
+        Ending::Clean
     }
-    if standard::failed(b) {
-        return Ending::Failed;
-    }
-    if !whole {
-        return Ending::Found;
-    }
-    let w = sent::state(s);
-    if w.seen > 0 {
-        return Ending::Found;
-    }
-    if w.accepted < w.frames {
-        return Ending::Found;
-    }
-    Ending::Clean
 }
 
 // Says what failed on standard error, and the ending to who asked for it.
-fn report(rt: &impl Files, error: Stderr, words: Words, s: Sent, b: Brought, whole: bool, o: Ending)
-    requires { o ≡ ending_of s b whole }
+fn report(rt: &impl Files, error: Stderr, words: Words, run: Run, o: Ending)
+    requires { o ≡ ending_of run.sent run.brought run.whole }
 {
-    if !sent::taken(s) {
+    if !run.sent.taken() {
         let _ = error.println("frames: a write failed");
     }
-    if standard::failed(b) {
+    if run.brought.failed() {
         let _ = error.println("frames: a read failed: what is printed is of the bytes before");
     }
     words::say(rt, words, o);
@@ -171,23 +115,16 @@ pub fn print_frames(
 ) -> Sent
     ensures { Finished words.quiet (reading_of words) result }
 {
-    let reading = words::reading(words);
+    let begun = Sent::begun(output, words.quiet, Reading::from(words));
     let mut buf = [0u8; 65536];
     let mut out = [0u8; 65536];
-    let t = read_all(input, output, words.quiet, &mut buf, &mut out, reading);
-    let sent = t.sent;
-    let brought = t.brought;
-    if !sent::taken(sent) {
-        let ending = went(sent, brought, t.whole);
-        report(rt, error, words, sent, brought, t.whole, ending);
-        return sent;
+    let mut run = read_all(input, begun, &mut buf, &mut out);
+    if run.sent.taken() {
+        let n = closing::closing(run.sent.state(), &mut out);
+        run.sent = run.sent.close(run.brought, &out[..n]);
     }
-    let state = sent::state(sent);
-    let n = closing::closing(state, &mut out);
-    let last = sent::close(output, sent, brought, &out[..n]);
-    let ending = went(last, brought, t.whole);
-    report(rt, error, words, last, brought, t.whole, ending);
-    last
+    report(rt, error, words, run, went(run));
+    run.sent
 }
 
 // The program: what the words ask for, and nothing where they are none.

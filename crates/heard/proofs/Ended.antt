@@ -7,9 +7,10 @@ use mathlib.Core.List.{List, [], ◌∷◌, ◌++◌, append-nil}
 use mathlib.Core.Logic.{◌⊎◌, inl, inr}
 use native.Mathlib.Omega.{arith}
 use lib.ListN.{length}
+use Rattle.std.specs.Prelude.{Err}
 use Rattle.format.specs.declared.Reading.{Reading}
+use Rattle.format.specs.declared.Fault.TheVariants.{Short}
 use Rattle.records.specs.declared.Message.{Message as Record}
-use Rattle.reader.specs.declared.Window.TheVariants.{Incomplete}
 use Rattle.reader.specs.Window.{window_of}
 use Rattle.laws.proofs.Answers.{keeps}
 use Rattle.stream.specs.declared.Stream.{Stream}
@@ -54,7 +55,7 @@ next-ends rd input s b r ms _ (message h l m n w f) e q = let z : ◌≡◌ {A =
 next-ends rd input s b r ms _ (wants h l w) e q = let z : ◌≡◌ {A = ℕ} 0 1 = cc in absurd (omega arith)
 next-ends rd input s b r ms _ (marked_next h l n p w) e q =
     let v = window_at s b in
-    let k = keeps rd v r (λ (f : window_of rd v ≡ Incomplete). let z : ◌≡◌ {A = ℕ} 0 1 = cc in omega arith) in
+    let k = keeps rd v r (λ (f : window_of rd v ≡ Err Short). let z : ◌≡◌ {A = ℕ} 0 1 = cc in omega arith) in
     rw (clear-marks s n p q.clear) (inl (last rd input ms (heard_of rd (v ++ r)) (Refused n p) q.heard (heard-bad rd (v ++ r) n p (k ∙ w))))
 
 -- ---- room is refused
@@ -77,7 +78,7 @@ cut_inside [] h = absurd (omega arith)
 cut_inside (x ∷ w) h = refl
 
 -- nothing came, and nothing was left
-at-end : (rd : Reading) (input : List ℕ) (s : Stream) (b r : List ℕ) (ms : List Record) (a : Answer) → window_of rd (window_at s b) ≡ Incomplete → r ≡ []
+at-end : (rd : Reading) (input : List ℕ) (s : Stream) (b r : List ℕ) (ms : List Record) (a : Answer) → window_of rd (window_at s b) ≡ Err Short → r ≡ []
     → stop_at (window_at s b) ≡ a → Holds rd input 1 s b r ms → Ends rd input ms a
 at-end rd input s b r ms a w z d q =
     let v = window_at s b in
@@ -85,7 +86,7 @@ at-end rd input s b r ms a w z d q =
     inl (last rd input ms (heard_of rd (v ++ r)) a q.heard (ap (heard_of rd) i ∙ heard-cut rd v w ∙ ap ends d))
 
 told-ends : (rd : Reading) (input : List ℕ) (s : Stream) (b r : List ℕ) (ms : List Record) {may : Cutting} (y : Read may s.end b r) (x : Step)
-    → Told s y.brings.count x → stops x.answer ≡ true → window_of rd (window_at s b) ≡ Incomplete
+    → Told s y.brings.count x → stops x.answer ≡ true → window_of rd (window_at s b) ≡ Err Short
     → Holds rd input 1 s b r ms → Ends rd input ms x.answer
 unfolding stops
 told-ends rd input s b r ms y _ (no-told (30-told f)) e g q = absurd (f q.sound)
@@ -104,7 +105,7 @@ told-ends rd input s b r ms y _ (marked-told h k f) e g q =
 
 -- where room was made the window still wants bytes
 still-short : (rd : Reading) (s : Stream) (b : List ℕ) → (next_of rd s b).answer ≡ Wants → (roomed rd s b).answer ≡ Ready
-    → window_of rd (window_at (roomed rd s b).state (room_buffer (next_of rd s b).state b)) ≡ Incomplete
+    → window_of rd (window_at (roomed rd s b).state (room_buffer (next_of rd s b).state b)) ≡ Err Short
 still-short rd s b w e =
     let k = next-waits rd s b w in
     ap (window_of rd) ((room-same (next_of rd s b).state b e).window ∙ ap (λ (x : Stream). window_at x b) k.kept) ∙ k.short

@@ -8,9 +8,10 @@ use mathlib.Core.List.{List, [], ◌∷◌, ◌++◌, append_assoc}
 use native.Mathlib.Omega.{arith}
 use lib.ListN.{length, take, drop, length-drop, take-append-drop}
 use lib.Seq.{drop-append-le}
+use Rattle.std.specs.Prelude.{Ok, Err}
 use Rattle.format.specs.declared.Reading.{Reading}
+use Rattle.format.specs.declared.Fault.TheVariants.{Short}
 use Rattle.records.specs.declared.Message.{Message as Record}
-use Rattle.reader.specs.declared.Window.TheVariants.{Message as Accepted, Incomplete}
 use Rattle.reader.specs.Window.{window_of}
 use Rattle.laws.proofs.Answers.{keeps}
 use Rattle.stream.specs.declared.Stream.{Stream}
@@ -55,9 +56,9 @@ one_more : (ms : List Record) (m : Record) (h : Heard) → before ms (before (m 
 one_more ms m h = ap (λ (x : List Record). record { messages = x; stop = h.stop }) (sym (append_assoc ms (m ∷ []) h.messages))
 
 -- what is heard of a window that begins with a message, and of the bytes behind it
-heard-on : (rd : Reading) (w r : List ℕ) (m : Record) (n : ℕ) → window_of rd w ≡ Accepted m n → heard_of rd (w ++ r) ≡ before (m ∷ []) (heard_of rd (drop n w ++ r))
+heard-on : (rd : Reading) (w r : List ℕ) (m : Record) (n : ℕ) → window_of rd w ≡ Ok (m, n) → heard_of rd (w ++ r) ≡ before (m ∷ []) (heard_of rd (drop n w ++ r))
 heard-on rd w r m n e =
-    heard-message rd (w ++ r) m n (keeps rd w r (λ (f : window_of rd w ≡ Incomplete). let z : ◌≡◌ {A = ℕ} 0 1 = cc in omega arith) ∙ e)
+    heard-message rd (w ++ r) m n (keeps rd w r (λ (f : window_of rd w ≡ Err Short). let z : ◌≡◌ {A = ℕ} 0 1 = cc in omega arith) ∙ e)
     ∙ ap (λ (x : List ℕ). before (m ∷ []) (heard_of rd x)) (drop-append-le n w r (some rd w m n e).1)
 
 taken-holds : (rd : Reading) (input : List ℕ) (s : Stream) (b r : List ℕ) (ms : List Record) (m : Record) → (next_of rd s b).answer ≡ Message m

@@ -1,12 +1,11 @@
 -- What an input holds for a stream that reads it by a reading: its messages in order, and the answer that ends them. It is said of the input alone: there
 -- is no buffer in it, and no read.
 -- Assumes nothing.
-use Rattle.std.specs.Prelude.{ℕ, zero, suc, ◌≤◌, List, [], ◌∷◌, ◌++◌, length, drop}
+use Rattle.std.specs.Prelude.{ℕ, zero, suc, ◌≤◌, List, [], ◌∷◌, ◌++◌, length, drop, Ok, Err}
 use Rattle.format.specs.declared.Reading.{Reading}
+use Rattle.format.specs.declared.Fault.TheVariants.{Short, Refused as Bad}
 use Rattle.records.specs.declared.Message.{Message as Record}
-use Rattle.reader.specs.Window.{window_of}
-use Rattle.reader.specs.declared.Window.{Window}
-use Rattle.reader.specs.declared.Window.TheVariants.{Message as Accepted, Incomplete, Refused as Bad}
+use Rattle.reader.specs.Window.{window_of, Window}
 use Rattle.stream.specs.declared.Answer.{Answer}
 use Rattle.stream.specs.declared.Answer.TheVariants.{Nothing, Refused}
 
@@ -28,9 +27,9 @@ stop_at (x ∷ s) = Refused 10 0
 
 -- by the reader's answer to all that is left: a message is taken and its bytes dropped, a refusal ends, and so does the input's end
 abbrev pub heard_by : List ℕ → Window → (ℕ → Heard) → Heard
-heard_by s (Accepted m n) go = before (m ∷ []) (go n)
-heard_by s Incomplete go = ends (stop_at s)
-heard_by s (Bad n p) go = ends (Refused n p)
+heard_by s (Ok (m, n)) go = before (m ∷ []) (go n)
+heard_by s (Err Short) go = ends (stop_at s)
+heard_by s (Err (Bad r)) go = ends (Refused r.number r.place)
 
 -- at most k messages are looked for
 unfoldable pub heard_at : Reading → ℕ → List ℕ → Heard

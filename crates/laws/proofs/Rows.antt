@@ -73,7 +73,7 @@ all_read (k ∷ ks) s at acc go vs n e = next (field k s at) refl e (λ v. all_r
     more : (v : ℕ) → field k s at ≡ got v
         → (hs : List ℕ) × Reads s ks (at + width k) hs × (go ((acc ++ (v ∷ [])) ++ hs) (at + width k + widths ks) ≡ accepted vs n)
         → (hs : List ℕ) × Reads s (k ∷ ks) at hs × (go (acc ++ hs) (at + (width k + widths ks)) ≡ accepted vs n)
-    more v q r = (v ∷ r.0, q ⨾ r.1, rw (append_assoc acc (v ∷ []) r.0, add_assoc at (width k) (widths ks)) at r.2)
+    more v q r = (v ∷ r.0, sym q ⨾ r.1, rw (append_assoc acc (v ∷ []) r.0, add_assoc at (width k) (widths ks)) at r.2)
 
     next : (g : Got) → field k s at ≡ g → step g (λ v. read ks s (at + width k) (acc ++ (v ∷ [])) go) ≡ accepted vs n
         → ((v : ℕ) → read ks s (at + width k) (acc ++ (v ∷ [])) go ≡ accepted vs n
@@ -87,4 +87,4 @@ all_read (k ∷ ks) s at acc go vs n e = next (field k s at) refl e (λ v. all_r
 pub covers : {s : List ℕ} {ks : List Kind} {at : ℕ} {vs : List ℕ} → Reads s ks at vs → at ≤ length s → at + widths ks ≤ length s
 covers end l = omega arith
 covers {s} (◌⨾◌ {k = k} {ks = ks} {at = at} e r) l =
-    omega (arith, covers r (field-fine k s at e).0)
+    omega (arith, covers r (field-fine k s at (sym e)).0)

@@ -1,5 +1,5 @@
-// The calls over a lent state, for callers that hold no reference to one. Each function puts its state into a local, lends it to the call of lent that has
-// the same name, and gives it back with the answer. Whoever calls these needs no walk.
+// The calls over a lent state, for callers that hold no reference to one: each function lends its state to the call of lent that has the same name, and
+// gives it back with the answer. One function that takes the call as a closure would be no plainer: its contract would have to say what a closure promises of the state and the buffer.
 #![tactic(auto)]
 
 ghost use Rattle.std.specs.Prelude.{◌≡◌, length};
@@ -13,45 +13,41 @@ use play::Played;
 use stream::{Step, Stream};
 
 // Next, of a state that is lent.
-pub fn next(s: Stream, buf: &[u8], reading: Reading) -> Step
+pub fn next(mut s: Stream, buf: &[u8], reading: Reading) -> Step
     ensures { result ≡ next_of reading s buf.now }
 {
-    let mut state = s;
-    let answer = lent::next(&mut state, buf, reading);
-    Step { state, answer }
+    let answer = lent::next(&mut s, buf, reading);
+    Step { state: s, answer }
 }
 
 // Make room, of a state that is lent.
-pub fn make_room(s: Stream, buf: &mut [u8]) -> Step
+pub fn make_room(mut s: Stream, buf: &mut [u8]) -> Step
     ensures value { result ≡ room_of s (length buf.old) }
     ensures buf_after { buf.new ≡ room_buffer s buf.old }
 {
-    let mut state = s;
-    let answer = lent::make_room(&mut state, buf);
-    Step { state, answer }
+    let answer = lent::make_room(&mut s, buf);
+    Step { state: s, answer }
 }
 
 // Told how many bytes came, of a state that is lent.
-pub fn told(s: Stream, n: usize) -> Step
+pub fn told(mut s: Stream, n: usize) -> Step
     ensures { result ≡ told_of s n }
 {
-    let mut state = s;
-    let answer = lent::told(&mut state, n);
-    Step { state, answer }
+    let answer = lent::told(&mut s, n);
+    Step { state: s, answer }
 }
 
 // Told that a read failed, of a state that is lent.
-pub fn told_failed(s: Stream) -> Step
+pub fn told_failed(mut s: Stream) -> Step
     ensures { result ≡ failed_of s }
 {
-    let mut state = s;
-    let answer = lent::told_failed(&mut state);
-    Step { state, answer }
+    let answer = lent::told_failed(&mut s);
+    Step { state: s, answer }
 }
 
 // A slice plays the reader, of a state that is lent.
 pub fn play(
-    s: Stream,
+    mut s: Stream,
     buf: &mut [u8],
     src: &[u8],
     at: usize,
@@ -61,10 +57,9 @@ pub fn play(
     ensures value { result ≡ (play_of reading src.now width s buf.old at).played }
     ensures buf_after { buf.new ≡ (play_of reading src.now width s buf.old at).buffer }
 {
-    let mut state = s;
-    let reach = lent::play_on(&mut state, buf, src, at, width, reading);
+    let reach = lent::play_on(&mut s, buf, src, at, width, reading);
     Played {
-        state,
+        state: s,
         at: reach.at,
         answer: reach.answer,
     }

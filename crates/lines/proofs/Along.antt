@@ -11,7 +11,7 @@ use lib.ListN.{length, drop, get_or, replicate, length-drop, drop_of_length-le}
 use lib.Seq.{sets, drop-cons}
 use Rattle.format.specs.declared.Reading.{Reading}
 use Rattle.format.proofs.Tests.{le-or-lt}
-use Rattle.reader.specs.declared.Window.{Window}
+use Rattle.reader.specs.Window.{Window}
 use Rattle.walk.specs.declared.Walk.{Walk}
 use Rattle.walk.specs.Walk.{size_by, frame_size, count_of, judge_of, put, done_of}
 use Rattle.walk.proofs.Cases.{count-one}
@@ -154,7 +154,7 @@ module _ (quiet : Bool) (win : List ℕ → Window) (rd : Reading) where
   pub gone-along : (b : List ℕ) (from : ℕ) (out : List ℕ) (at offset frames accepted : ℕ) → from ≤ length b → at ≤ length out
       → offset + (length b - from) < 2 ^ 64 → 2 * frames ≤ offset → accepted ≤ frames → (after : List ℕ) (g : Gone)
       → Goes quiet win b (length b) from offset frames accepted out at after g
-      → Along b from out at (start_of offset frames accepted rd) after g.at g.to g.offset g.frames g.accepted
+      → Along b from out at (start_of offset frames accepted rd) after g.at g.to g.counts.offset g.counts.frames g.counts.accepted
   gone-along b from out at offset frames accepted h k r t c after g G =
       rw (G.past, G.told, G.good)
       (along-frames b from out at (start_of offset frames accepted rd) out from at offset frames accepted

@@ -8,7 +8,7 @@ use mathlib.Core.Logic.{◌⊎◌, inl, inr, ⊎_elim}
 use native.Mathlib.Omega.{arith}
 use native.Mathlib.Nat.{add-zero, zero-add}
 use lib.ListN.{length, drop, length-drop}
-use Rattle.reader.specs.declared.Window.{Window}
+use Rattle.reader.specs.Window.{Window}
 use Rattle.walk.specs.declared.Walk.{Walk}
 use Rattle.walk.specs.Walk.{frame_size, count_of, judge_of, put, ready_of, done_of, more_of, past_of, step_of}
 use Rattle.walk.proofs.Held.{put-started}
@@ -126,9 +126,9 @@ module _ (quiet : Bool) (win : List ℕ → Window) (held : List ℕ) (size offs
 
   pub record One : Type 0 where
     pub line : Wrote (line_of quiet (record { at = offset; size = size; what = judge_of win held size })) out to after g.to
-    pub past : g.offset ≡ offset + size
-    pub told : g.frames ≡ frames + 1
-    pub good : g.accepted ≡ accepted + count_of (judge_of win held size)
+    pub past : g.counts.offset ≡ offset + size
+    pub told : g.counts.frames ≡ frames + 1
+    pub good : g.counts.accepted ≡ accepted + count_of (judge_of win held size)
 
   pub held_one : One
   unfolding lines_of accepts

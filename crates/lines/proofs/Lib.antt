@@ -1,4 +1,4 @@
-pub mod Digits
+pub mod Pairs
 pub mod Plainly
 pub mod Told
 pub mod Moves

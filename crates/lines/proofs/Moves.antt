@@ -8,13 +8,12 @@ use native.Mathlib.Omega.{arith}
 use borrow.Author.Tests.{ltb-true, ltb-false}
 use lib.ListN.{length}
 use lib.Dec.{ltb}
-use Rattle.reader.specs.declared.Window.{Window}
+use Rattle.reader.specs.Window.{Window}
 use Rattle.walk.specs.declared.Walk.{Walk}
 use Rattle.walk.specs.declared.Stepped.{Stepped}
-use Rattle.walk.specs.declared.Verdict.{Verdict}
 use Rattle.walk.proofs.Held.{put-started}
 use Rattle.walk.proofs.Cases.{ready_gives, step-30, step-33, step-moves, moved_more, moved-done, count-one}
-use Rattle.walk.specs.Walk.{sound_of, countable, step_of, moved_of, done_of, judge_of, more_of, refused_of, frame_size, put, Ready}
+use Rattle.walk.specs.Walk.{sound_of, countable, step_of, moved_of, done_of, judge_of, more_of, refused_of, frame_size, put, Ready, Verdict}
 use Rattle.lines.specs.Blocks.{refuses_of, Sane}
 
 -- the three kinds of a step

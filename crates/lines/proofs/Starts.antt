@@ -10,7 +10,7 @@ use lib.Dec.{eqb}
 use lib.ListN.{length, replicate}
 use Rattle.format.specs.declared.Reading.{Reading}
 use Rattle.format.proofs.Tests.{and_split}
-use Rattle.reader.specs.declared.Window.{Window}
+use Rattle.reader.specs.Window.{Window}
 use Rattle.walk.specs.declared.Walk.{Walk}
 use Rattle.walk.specs.Walk.{frame_size, zeros, zero_from, sound_of, countable, ready_of, Ready, put, judge_of, done_of, more_of, moved_of, step_of}
 use Rattle.walk.proofs.Held.{put-there, put_front}

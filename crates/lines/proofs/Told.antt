@@ -1,35 +1,33 @@
 -- The loops that tell of frames, over plain values: what was told so far.
 -- Assumes nothing.
 use Prim.Native.Nat.{ℕ, ◌+◌, ◌-◌, ◌*◌, ◌≤◌, ◌<◌, min}
-use mathlib.Core.Path.{◌≡◌, refl, sym, ap, subst, ◌∙◌}
+use mathlib.Core.Path.{◌≡◌, refl, sym, ap, ◌∙◌}
 use mathlib.Core.Bool.{Bool, true, false, cond, false≢true}
 use mathlib.Core.List.{List, [], ◌∷◌, ◌++◌, append_assoc, append-nil}
 use native.Mathlib.Omega.{arith}
-use types.Run.{OneOf, miss}
-use denote.Enum.Declared.{tag_of, declared}
 use borrow.Author.Tests.{ltb-false}
 use lib.Dec.{ltb}
 use lib.ListN.{length, take, drop, length-take, length-append}
+use Rattle.std.specs.Prelude.{Ok, Err}
 use Rattle.format.specs.declared.Reading.{Reading}
+use Rattle.format.specs.declared.Fault.TheVariants.{Short, Refused}
+use Rattle.format.specs.Meaning.{refusal}
 use Rattle.records.specs.declared.Message.{Message}
-use Rattle.reader.specs.declared.Window.{Window}
-use Rattle.reader.specs.declared.Window.TheVariants.{Message as Message', Incomplete, Refused as Refused'}
-use Rattle.reader.specs.Window.{window_of}
+use Rattle.reader.specs.Window.{window_of, Window}
 use Rattle.laws.proofs.Answers.{covers}
-use Rattle.walk.specs.declared.Verdict.{Verdict}
-use Rattle.walk.specs.declared.Verdict.TheVariants.{Accepted, Bad}
-use Rattle.walk.specs.Walk.{frame_size, verdict_of, count_of, judge_of}
+use Rattle.walk.specs.Walk.{frame_size, verdict_of, count_of, judge_of, Verdict}
 use Rattle.walk.specs.Frames.{Entry, accepts}
 use Rattle.text.specs.Decimal.{decimal_of, Wrote}
 use Rattle.text.proofs.Laws.{wrote_none, wrote-append, wrote_as, wrote-long}
-use Rattle.lines.specs.contracts.Halt.{enum}
+use Rattle.lines.specs.declared.counts.Counts.{Counts}
 use Rattle.lines.specs.declared.Halt.{Halt}
 use Rattle.lines.specs.declared.Halted.{Halted}
-use Rattle.lines.specs.declared.Look.TheVariants.{Bad as Ill}
+use Rattle.format.specs.declared.Refusal.{Refusal}
+use Rattle.std.specs.Prelude.{Err}
 use Rattle.lines.specs.declared.Halt.TheVariants.{Cut, Full, Bad as Refused}
 use Rattle.lines.specs.Lines.{accepted_of, refused_of, line_of, lines_of}
 use Rattle.lines.specs.Blocks.{longest}
-use Rattle.lines.specs.Whole.{is_full, look_of, halted_of, Cutting, entry_at, Ends, Frames, none, more, Halting, cut, full, refused, Halts, Goes}
+use Rattle.lines.specs.Whole.{look_of, Cutting, entry_at, Ends, Frames, none, more, Halting, cut, full, refused, Halts, Goes}
 
 -- ---- the lines, the accepted and the number of frames that are told one behind the other
 
@@ -85,19 +83,20 @@ module _ (quiet : Bool) (win : List ℕ → Window) (s : List ℕ) (have from of
 
     -- a frame of this size begins here and ends within the bytes
     module _ (size : ℕ) (E : Ends s have i) (z : size ≡ frame_size (drop i s)) (space : o ≤ length out₀ - longest) where
-      pub telling-refused : (v : Verdict) → v ≡ judge_of win (drop i s) size → (number place : ℕ) → look_of v ≡ Ill number place
-          → Halts quiet win s have from offset out₀ to out (halted_of i o count (look_of v) size)
-      telling-refused (Accepted m) e _ _ n = let x : ◌≡◌ {A = ℕ} 0 1 = cc in absurd (omega arith)
-      telling-refused (Bad number place) e _ _ n =
-          let j : judge_of win (drop i s) (frame_size (drop i s)) ≡ Bad number place = rw z at (sym e) in
-          halts (Refused number place size) (rw z (refused number place E (omega (arith, space, T.wide)) j))
+      pub telling-refused : (v : Verdict) → v ≡ judge_of win (drop i s) size → (r : Refusal) → look_of v ≡ Err r
+          → Halts quiet win s have from offset out₀ to out (record { at = i; to = o; count = count; why = Refused r size })
+      telling-refused (Ok m) e r n = let x : ◌≡◌ {A = ℕ} 0 1 = cc in absurd (omega arith)
+      telling-refused (Err q) e r n =
+          let j : judge_of win (drop i s) (frame_size (drop i s)) ≡ Err q = rw z at (sym e) in
+          let b : q ≡ r = cc in
+          rw (← b) (halts (Refused q size) (rw z (refused q E (omega (arith, space, T.wide)) j)))
 
-      pub telling-more : (m : Message) → judge_of win (drop i s) size ≡ Accepted m → (out' : List ℕ) (o' : ℕ)
+      pub telling-more : (m : Message) → judge_of win (drop i s) size ≡ Ok m → (out' : List ℕ) (o' : ℕ)
           → Wrote (cond quiet [] (decimal_of (offset + (i - from)) ++ accepted_of m.tag size)) out o out' o' → Telling out' (i + size) o' (count + 1)
       unfolding line_of
       telling-more m e out' o' q =
           let en = entry_at win s from offset i in
-          let j : judge_of win (drop i s) (frame_size (drop i s)) ≡ Accepted m = rw z at e in
+          let j : judge_of win (drop i s) (frame_size (drop i s)) ≡ Ok m = rw z at e in
           let q' : Wrote (cond quiet [] (decimal_of (offset + (i - from)) ++ accepted_of m.tag (frame_size (drop i s)))) out o out' o' = rw z at q in
           let line : Wrote (line_of quiet en) out o out' o' = rw j q' in
           record {
@@ -112,16 +111,16 @@ module _ (quiet : Bool) (win : List ℕ → Window) (s : List ℕ) (have from of
           }
 
 -- an accepted frame's size has two digits
-pub accepted-size : (rd : Reading) (s : List ℕ) (size : ℕ) (m : Message) → judge_of (window_of rd) s size ≡ Accepted m → (13 ≤ size) × (size ≤ 52)
+pub accepted-size : (rd : Reading) (s : List ℕ) (size : ℕ) (m : Message) → judge_of (window_of rd) s size ≡ Ok m → (13 ≤ size) × (size ≤ 52)
 unfolding judge_of
 accepted-size rd s size m = go (window_of rd (take (min size 52) s)) refl
   where
-    go : (w : Window) → window_of rd (take (min size 52) s) ≡ w → verdict_of w size ≡ Accepted m → (13 ≤ size) × (size ≤ 52)
-    go Incomplete e v = absurd (omega (arith, ap count_of v))
-    go (Refused' number place) e v = absurd (omega (arith, ap count_of v))
-    go (Message' n used) e v = by (ltb used size) refl v
+    go : (w : Window) → window_of rd (take (min size 52) s) ≡ w → verdict_of w size ≡ Ok m → (13 ≤ size) × (size ≤ 52)
+    go (Err Short) e v = absurd (omega (arith, ap count_of v))
+    go (Err (Refused r)) e v = absurd (omega (arith, ap count_of v))
+    go (Ok (n, used)) e v = by (ltb used size) refl v
       where
-        by : (b : Bool) → ltb used size ≡ b → cond b (Bad 21 0) (Accepted n) ≡ Accepted m → (13 ≤ size) × (size ≤ 52)
+        by : (b : Bool) → ltb used size ≡ b → cond b (Err (refusal 21 0)) (Ok n) ≡ Ok m → (13 ≤ size) × (size ≤ 52)
         by true l x = absurd (omega (arith, ap count_of x))
         by false l x =
             let q = covers rd (take (min size 52) s) n used e in
@@ -199,60 +198,66 @@ module _ (quiet : Bool) (win : List ℕ → Window) (s : List ℕ) (have from of
     good-both = accepts-append P.entries H.entries ∙ ap (λ (n : ℕ). accepts P.entries + n) H.all
 
     -- no further: cut, or no room
-    abbrev Gone-here : Bool → Type 0
-    Gone-here b =
-        Goes quiet win s have from offset frames accepted out₀ to out'
-        (record { at = r.at; to = r.to; offset = off + (r.at - i); frames = fr + r.count; accepted = acc + r.count; full = b })
+    module _ (c : Counts) (past : c.offset ≡ off + (r.at - i)) (told : c.frames ≡ fr + r.count) (good : c.accepted ≡ acc + r.count) where
+      ended : (b : Bool) → (b ≡ false → Cutting s have r.at × (r.at < have → r.to + longest ≤ length out₀))
+          → (b ≡ true → (r.at < have) × (length out₀ < r.to + longest))
+          → Goes quiet win s have from offset frames accepted out₀ to out' (record { at = r.at; to = r.to; counts = c; full = b })
+      ended b k f =
+          record {
+            entries = P.entries ++ H.entries;
+            run = both;
+            text = wrote_as all_lines (wrote-append P.text H.text);
+            past = omega (arith, past, P.past, P.ahead, far.0);
+            told = omega (arith, told, P.told, many-both);
+            good = omega (arith, good, P.good, good-both);
+            cut = k;
+            full = f;
+          }
 
-    pub passing-ends : (b : Bool) → b ≡ is_full r.why → ((number place size : ℕ) → r.why ≡ Refused number place size → ⊥) → Gone-here b
-    passing-ends b e not-bad = go r.why H.why refl
-      where
-        ended : (b ≡ false → Cutting s have r.at × (r.at < have → r.to + longest ≤ length out₀))
-            → (b ≡ true → (r.at < have) × (length out₀ < r.to + longest)) → Gone-here b
-        ended c f =
-            record {
-              entries = P.entries ++ H.entries;
-              run = both;
-              text = wrote_as all_lines (wrote-append P.text H.text);
-              past = omega (arith, P.past, P.ahead, far.0);
-              told = omega (arith, P.told, many-both);
-              good = omega (arith, P.good, good-both);
-              cut = c;
-              full = f;
-            }
+      pub passing-cut : r.why ≡ Cut → Goes quiet win s have from offset frames accepted out₀ to out' (record { at = r.at; to = r.to; counts = c; full = false })
+      passing-cut y = go r.why H.why y
+        where
+          go : (h : Halt) → Halting win s have (length out) r.at r.to h → h ≡ Cut
+              → Goes quiet win s have from offset frames accepted out₀ to out' (record { at = r.at; to = r.to; counts = c; full = false })
+          go _ (cut k space) z = ended false (λ _. (k, λ l. omega (arith, space l, long))) (λ e. absurd (false≢true e))
+          go _ (full lt room) z = let x : ◌≡◌ {A = ℕ} 0 1 = cc in absurd (omega arith)
+          go _ (refused w E room j) z = let x : ◌≡◌ {A = ℕ} 0 1 = cc in absurd (omega arith)
 
-        go : (h : Halt) → Halting win s have (length out) r.at r.to h → r.why ≡ h → Gone-here b
-        go _ (cut c space) y = ended (λ _. (c, λ l. omega (arith, space l, long))) (λ t. absurd (false≢true (sym (e ∙ ap is_full y) ∙ t)))
-        go _ (full lt room) y = ended (λ f. absurd (false≢true (sym f ∙ e ∙ ap is_full y))) (λ _. (lt, omega (arith, room, long)))
-        go _ (refused number place E room j) y = absurd (not-bad number place _ y)
+      pub passing-full : r.why ≡ Full → Goes quiet win s have from offset frames accepted out₀ to out' (record { at = r.at; to = r.to; counts = c; full = true })
+      passing-full y = go r.why H.why y
+        where
+          go : (h : Halt) → Halting win s have (length out) r.at r.to h → h ≡ Full
+              → Goes quiet win s have from offset frames accepted out₀ to out' (record { at = r.at; to = r.to; counts = c; full = true })
+          go _ (cut k space) z = let x : ◌≡◌ {A = ℕ} 0 1 = cc in absurd (omega arith)
+          go _ (full lt room) z = ended true (λ e. absurd (false≢true (sym e))) (λ _. (lt, omega (arith, room, long)))
+          go _ (refused w E room j) z = let x : ◌≡◌ {A = ℕ} 0 1 = cc in absurd (omega arith)
 
     -- a refused frame: its line is put, and the frames behind it follow
-    pub passing-on : (number place size : ℕ) → r.why ≡ Refused number place size → (out'' : List ℕ) (o' : ℕ)
-        → Wrote (decimal_of (off + (r.at - i)) ++ refused_of number place) out' r.to out'' o'
+    pub passing-on : (q : Refusal) (size : ℕ) → r.why ≡ Refused q size → (out'' : List ℕ) (o' : ℕ)
+        → Wrote (decimal_of (off + (r.at - i)) ++ refused_of q.number q.place) out' r.to out'' o'
         → Passing out'' (r.at + size) o' (off + (r.at - i) + size) (fr + r.count + 1) (acc + r.count)
     unfolding line_of
-    passing-on number place size y out'' o' q = go r.why H.why y
+    passing-on q size y out'' o' t = go r.why H.why y
       where
-        go : (h : Halt) → Halting win s have (length out) r.at r.to h → h ≡ Refused number place size
+        go : (h : Halt) → Halting win s have (length out) r.at r.to h → h ≡ Refused q size
             → Passing out'' (r.at + size) o' (off + (r.at - i) + size) (fr + r.count + 1) (acc + r.count)
         go _ (cut c space) z = let x : ◌≡◌ {A = ℕ} 0 1 = cc in absurd (omega arith)
         go _ (full lt room) z = let x : ◌≡◌ {A = ℕ} 0 1 = cc in absurd (omega arith)
-        go _ (refused n p E room j) z =
-            let nn : n ≡ number = cc in
-            let pp : p ≡ place = cc in
+        go _ (refused w E room j) z =
+            let qq : w ≡ q = cc in
             let ss : frame_size (drop r.at s) ≡ size = cc in
             let en = entry_at win s from offset r.at in
             let at : offset + (r.at - from) ≡ off + (r.at - i) = omega (arith, P.past, P.ahead, far.0) in
-            let line : line_of quiet en ≡ decimal_of (off + (r.at - i)) ++ refused_of number place = rw (at, j, nn, pp) in
+            let line : line_of quiet en ≡ decimal_of (off + (r.at - i)) ++ refused_of q.number q.place = rw (at, j, qq) in
             let lines : lines_of quiet ((P.entries ++ H.entries) ++ (en ∷ []))
-            ≡ (lines_of quiet P.entries ++ lines_of quiet H.entries) ++ (decimal_of (off + (r.at - i)) ++ refused_of number place) =
+            ≡ (lines_of quiet P.entries ++ lines_of quiet H.entries) ++ (decimal_of (off + (r.at - i)) ++ refused_of q.number q.place) =
             lines-last quiet (P.entries ++ H.entries) en ∙ rw (all_lines, line) in
             let many = ap length all_lines ∙ length-append (lines_of quiet P.entries) (lines_of quiet H.entries) in
             rw (← ss)
             (record {
               entries = (P.entries ++ H.entries) ++ (en ∷ []);
               run = more both E (omega (arith, room, long, P.text.next, H.text.next, many));
-              text = wrote_as lines (wrote-append (wrote-append P.text H.text) q);
+              text = wrote_as lines (wrote-append (wrote-append P.text H.text) t);
               past = omega (arith, P.past, P.ahead, far.0);
               told = omega (arith, P.told, many-both, many-last (P.entries ++ H.entries) en);
               good = omega (arith, P.good, good-both, accepts_last (P.entries ++ H.entries) en, ap count_of j);
@@ -264,18 +269,14 @@ module _ (quiet : Bool) (win : List ℕ → Window) (s : List ℕ) (have from of
 
 -- at a refused frame there is room for its line
 pub halts-bad : {quiet : Bool} {win : List ℕ → Window} {s : List ℕ} {have i off : ℕ} {out : List ℕ} {o : ℕ} {out' : List ℕ} {r : Halted}
-    → Halts quiet win s have i off out o out' r → (number place size : ℕ) → r.why ≡ Refused number place size
+    → Halts quiet win s have i off out o out' r → (q : Refusal) (size : ℕ) → r.why ≡ Refused q size
     → (r.to + longest ≤ length out') × (r.at < have) × (size ≤ have - r.at) × (2 ≤ size)
-halts-bad {quiet} {win} {s} {have} {i} {off} {out} {o} {out'} {r} H number place size y = go r.why H.why y
+halts-bad {quiet} {win} {s} {have} {i} {off} {out} {o} {out'} {r} H q size y = go r.why H.why y
   where
-    go : (h : Halt) → Halting win s have (length out) r.at r.to h → h ≡ Refused number place size
+    go : (h : Halt) → Halting win s have (length out) r.at r.to h → h ≡ Refused q size
         → (r.to + longest ≤ length out') × (r.at < have) × (size ≤ have - r.at) × (2 ≤ size)
     go _ (cut c space) z = let x : ◌≡◌ {A = ℕ} 0 1 = cc in absurd (omega arith)
     go _ (full lt room) z = let x : ◌≡◌ {A = ℕ} 0 1 = cc in absurd (omega arith)
-    go _ (refused n p E room j) z =
+    go _ (refused w E room j) z =
         let ss : frame_size (drop r.at s) ≡ size = cc in
         (omega (arith, room, wrote-long H.text), E.before, omega (arith, E.whole, ss), omega (arith, ss))
-
--- where a `let .. else` went to its else, by the keys that the match has there
-pub not-bad : {h : Halt} → OneOf (0 ∷ 1 ∷ []) (tag_of (declared enum) h) → (number place size : ℕ) → h ≡ Refused number place size → ⊥
-not-bad k n p z e = miss (0 ∷ 1 ∷ []) 2 tt (subst (λ (x : Halt). OneOf (0 ∷ 1 ∷ []) (tag_of (declared enum) x)) e k)

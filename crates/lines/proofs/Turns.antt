@@ -11,13 +11,12 @@ use borrow.Author.Tests.{lt-ltb, le-ltb}
 use lib.ListN.{length, take, drop, length-drop, length-append}
 use lib.Seq.{take_all}
 use Rattle.format.proofs.Tests.{le-or-lt}
-use Rattle.reader.specs.declared.Window.{Window}
+use Rattle.reader.specs.Window.{Window}
 use Rattle.walk.specs.declared.Walk.{Walk}
 use Rattle.walk.specs.declared.Stepped.{Stepped}
 use Rattle.walk.specs.declared.Answer.{Answer}
 use Rattle.walk.specs.declared.Answer.TheVariants.{Frame, WantsMore, Refused}
-use Rattle.walk.specs.declared.Verdict.{Verdict}
-use Rattle.walk.specs.Walk.{put, done_of, past_of, more_of, step_of}
+use Rattle.walk.specs.Walk.{put, done_of, past_of, more_of, step_of, Verdict}
 use Rattle.walk.specs.Frames.{Entry}
 use Rattle.text.specs.Decimal.{Wrote}
 use Rattle.text.proofs.Laws.{sets-append, wrote-long, wrote_none}

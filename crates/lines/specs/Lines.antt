@@ -1,9 +1,8 @@
 -- What `frames` prints, as bytes. Where `quiet`, the lines of accepted frames are left out; those of refused frames and the closing lines stay.
 -- Assumes nothing.
-use Rattle.std.specs.Prelude.{ℕ, ◌+◌, ◌-◌, Bool, false, cond, List, [], ◌∷◌, ◌++◌, length}
+use Rattle.std.specs.Prelude.{ℕ, ◌+◌, ◌-◌, Bool, false, cond, List, [], ◌∷◌, ◌++◌, length, Ok, Err}
+use Rattle.walk.specs.Walk.{Verdict}
 use Rattle.text.specs.Decimal.{decimal_of, behind}
-use Rattle.walk.specs.declared.Verdict.{Verdict}
-use Rattle.walk.specs.declared.Verdict.TheVariants.{Accepted, Bad}
 use Rattle.walk.specs.Frames.{Entry, Walked, accepts}
 
 -- ` ok `, ` refused `, `tail `, `total `
@@ -27,13 +26,13 @@ unfoldable pub refused_of : ℕ → ℕ → List ℕ
 refused_of number place = refused_text ++ behind number 32 ++ behind place 10
 
 abbrev pub answer_of : Verdict → ℕ → List ℕ
-answer_of (Accepted m) size = accepted_of m.tag size
-answer_of (Bad number place) size = refused_of number place
+answer_of (Ok m) size = accepted_of m.tag size
+answer_of (Err r) size = refused_of r.number r.place
 
 -- whether a frame's line is left out
 abbrev pub silent_of : Bool → Verdict → Bool
-silent_of quiet (Accepted m) = quiet
-silent_of quiet (Bad number place) = false
+silent_of quiet (Ok m) = quiet
+silent_of quiet (Err r) = false
 
 unfoldable pub line_of : Bool → Entry → List ℕ
 line_of quiet e = cond (silent_of quiet e.what) [] (decimal_of e.at ++ answer_of e.what e.size)

@@ -1,17 +1,14 @@
 -- What the functions behind `walk_block` owe: the table of digits, and the lines of frames that end in a part of a recording.
 -- Assumes nothing.
-use Rattle.std.specs.Prelude.{ℕ, zero, suc, ◌+◌, ◌-◌, ◌^◌, ◌≤◌, ◌<◌, ◌≡◌, Bool, true, false, List, [], ◌∷◌, ◌++◌, ◌⊎◌, length, drop}
-use Rattle.reader.specs.declared.Window.{Window}
-use Rattle.walk.specs.declared.Verdict.{Verdict}
-use Rattle.walk.specs.declared.Verdict.TheVariants.{Accepted, Bad}
-use Rattle.walk.specs.Walk.{frame_size, judge_of}
+use Rattle.std.specs.Prelude.{ℕ, zero, suc, ◌+◌, ◌-◌, ◌^◌, ◌≤◌, ◌<◌, ◌≡◌, Bool, true, false, List, [], ◌∷◌, ◌++◌, ◌⊎◌, length, drop, Result, Ok, Err}
+use Rattle.format.specs.declared.Refusal.{Refusal}
+use Rattle.reader.specs.Window.{Window}
+use Rattle.walk.specs.Walk.{frame_size, judge_of, Verdict}
 use Rattle.walk.specs.Frames.{Entry, accepts}
 use Rattle.text.specs.Decimal.{two_of, Wrote}
 use Rattle.lines.specs.declared.Halt.{Halt}
 use Rattle.lines.specs.declared.Halt.TheVariants.{Cut, Full, Bad as Refused}
 use Rattle.lines.specs.declared.Halted.{Halted}
-use Rattle.lines.specs.declared.Look.{Look}
-use Rattle.lines.specs.declared.Look.TheVariants.{Tag, Bad as Ill}
 use Rattle.lines.specs.declared.Gone.{Gone}
 use Rattle.lines.specs.Lines.{lines_of}
 use Rattle.lines.specs.Blocks.{longest}
@@ -24,30 +21,19 @@ pairs_from (suc k) n = two_of n ++ pairs_from k (suc n)
 unfoldable pub pairs : List ℕ
 pairs = pairs_from 100 0
 
-abbrev pub is_full : Halt → Bool
-is_full Full = true
-is_full Cut = false
-is_full (Refused number place size) = false
-
 -- what a line tells of a frame's answer
-abbrev pub look_of : Verdict → Look
-look_of (Accepted m) = Tag m.tag
-look_of (Bad number place) = Ill number place
-
-abbrev pub halted_of : ℕ → ℕ → ℕ → Look → ℕ → Halted
-halted_of at to count (Ill number place) size = record { at = at; to = to; count = count; why = Refused number place size }
-halted_of at to count (Tag tag) size = record { at = at; to = to; count = count; why = Cut }
+abbrev pub look_of : Verdict → Result ℕ Refusal
+look_of (Ok m) = Ok m.tag
+look_of (Err r) = Err r
 
 -- from place i on, no frame ends within the first `have` bytes of s
 abbrev pub Cutting : List ℕ → ℕ → ℕ → Type 0
 Cutting s have i = (have ≤ i) ⊎ (length s ≤ i + 1) ⊎ (have - i < frame_size (drop i s))
 
--- what the loops over s are asked with: the offsets fit 64 bits, the table is that of the digits, and `to` is within a buffer of `long` bytes, which has room
--- for a line
-pub record Asked (s : List ℕ) (have from offset : ℕ) (table : List ℕ) (long to : ℕ) : Type 0 where
+-- what the loops over s are asked with: the offsets fit 64 bits, and `to` is within a buffer of `long` bytes, which has room for a line
+pub record Asked (s : List ℕ) (have from offset long to : ℕ) : Type 0 where
   pub begun : from ≤ have
   pub fits : offset + (have - from) < 2 ^ 64
-  pub digits : table ≡ pairs
   pub inside : to ≤ long
   pub wide : longest ≤ long
 
@@ -67,8 +53,8 @@ module _ (win : List ℕ → Window) where
   pub data Halting (s : List ℕ) (have long j r : ℕ) : Halt → Type 0 where
     cut : Cutting s have j → (j < have → r + longest ≤ long) → Halting s have long j r Cut
     full : j < have → long < r + longest → Halting s have long j r Full
-    refused : (number place : ℕ) → Ends s have j → r + longest ≤ long → judge_of win (drop j s) (frame_size (drop j s)) ≡ Bad number place
-        → Halting s have long j r (Refused number place (frame_size (drop j s)))
+    refused : (r' : Refusal) → Ends s have j → r + longest ≤ long → judge_of win (drop j s) (frame_size (drop j s)) ≡ Err r'
+        → Halting s have long j r (Refused r' (frame_size (drop j s)))
 
 module _ (quiet : Bool) (win : List ℕ → Window) where
   -- the frames between two places, each with room for its line in a buffer of `long` bytes, the first line at `to`
@@ -91,8 +77,8 @@ module _ (quiet : Bool) (win : List ℕ → Window) where
     pub entries : List Entry
     pub run : Frames s have from offset (length out) to entries r.at
     pub text : Wrote (lines_of quiet entries) out to after r.to
-    pub past : r.offset ≡ offset + (r.at - from)
-    pub told : r.frames ≡ frames + length entries
-    pub good : r.accepted ≡ accepted + accepts entries
+    pub past : r.counts.offset ≡ offset + (r.at - from)
+    pub told : r.counts.frames ≡ frames + length entries
+    pub good : r.counts.accepted ≡ accepted + accepts entries
     pub cut : r.full ≡ false → Cutting s have r.at × (r.at < have → r.to + longest ≤ length out)
     pub full : r.full ≡ true → (r.at < have) × (length out < r.to + longest)

@@ -18,7 +18,8 @@ use Rattle.format.proofs.Runs.{Reads, end, ◌⨾◌}
 use Rattle.laws.proofs.Rows.{all_read}
 use Rattle.format.proofs.Editions.{row_in}
 use Rattle.records.specs.Values.{values, body_from}
-use Rattle.codes.proofs.Codes.{event-coded, category-coded, status-coded, class-coded, tier-coded, maker_mode-coded, participant_state-coded, action-coded, trading_state-coded, side-coded, direction-coded, cross-coded, imbalance_cross-coded, qualifier-coded, level-coded, market-coded, halt-coded, interest-coded, flag-coded, etp_flag-coded, yes_no-coded, authenticity-coded, subtype-coded}
+use Rattle.codes.specs.Coded.{event-coded, category-coded, status-coded, class-coded, tier-coded, maker_mode-coded, participant_state-coded, action-coded, trading_state-coded, side-coded, direction-coded, cross-coded, imbalance_cross-coded, qualifier-coded, level-coded, market-coded, halt-coded, interest-coded, flag-coded, etp_flag-coded, yes_no-coded, authenticity-coded, subtype-coded}
+use Rattle.codes.proofs.Codes.{backed}
 
 -- what a field of a kind gives
 data Gives : Kind → ℕ → Type 0 where
@@ -45,7 +46,7 @@ gives subtype bs v e = let h = code-fine subtypes (be bs) v e in a-subtype (rw h
 
 row_gives : {s : List ℕ} {ks : List Kind} {at : ℕ} {vs : List ℕ} → Reads s ks at vs → Row-gives ks vs
 row_gives end = none_left
-row_gives {s} (◌⨾◌ {k = k} {at = at} {v = v} e r) = gives k (part s at (width k)) v (field-fine k s at e).1 & row_gives r
+row_gives {s} (◌⨾◌ {k = k} {at = at} {v = v} e r) = gives k (part s at (width k)) v (field-fine k s at (sym e)).1 & row_gives r
 
 -- ---- row by row: the values of the body made of a row's values
 
@@ -54,11 +55,11 @@ SameValues t = (vs : List ℕ) → Row-gives (fields_in (find rows t)) vs → va
 
 row-A : SameValues 'A'
 unfolding body_from
-row-A _ (a-number & a-code s & a-number & a-text & a-number & none_left) = simp (side-coded.back _ s)
+row-A _ (a-number & a-code s & a-number & a-text & a-number & none_left) = simp (backed _ _ _ side-coded _ s)
 
 row-F : SameValues 'F'
 unfolding body_from
-row-F _ (a-number & a-code s & a-number & a-text & a-number & a-text & none_left) = simp (side-coded.back _ s)
+row-F _ (a-number & a-code s & a-number & a-text & a-number & a-text & none_left) = simp (backed _ _ _ side-coded _ s)
 
 row-B : SameValues 'B'
 unfolding body_from
@@ -70,7 +71,7 @@ row-D _ (a-number & none_left) = refl
 
 row-C : SameValues 'C'
 unfolding body_from
-row-C _ (a-number & a-number & a-number & a-code y & a-number & none_left) = simp (yes_no-coded.back _ y)
+row-C _ (a-number & a-number & a-number & a-code y & a-number & none_left) = simp (backed _ _ _ yes_no-coded _ y)
 
 row-E : SameValues 'E'
 unfolding body_from
@@ -78,11 +79,11 @@ row-E _ (a-number & a-number & a-number & none_left) = refl
 
 row-H : SameValues 'H'
 unfolding body_from
-row-H _ (a-text & a-code c & a-number & a-text & none_left) = simp (trading_state-coded.back _ c)
+row-H _ (a-text & a-code c & a-number & a-text & none_left) = simp (backed _ _ _ trading_state-coded _ c)
 
 row-I : SameValues 'I'
 unfolding body_from
-row-I _ (a-number & a-number & a-code d & a-text & a-number & a-number & a-number & a-code x & a-number & none_left) = simp (direction-coded.back _ d, imbalance_cross-coded.back _ x)
+row-I _ (a-number & a-number & a-code d & a-text & a-number & a-number & a-number & a-code x & a-number & none_left) = simp (backed _ _ _ direction-coded _ d, backed _ _ _ imbalance_cross-coded _ x)
 
 row-J : SameValues 'J'
 unfolding body_from
@@ -90,31 +91,31 @@ row-J _ (a-text & a-number & a-number & a-number & a-number & none_left) = refl
 
 row-K : SameValues 'K'
 unfolding body_from
-row-K _ (a-text & a-number & a-code q & a-number & none_left) = simp (qualifier-coded.back _ q)
+row-K _ (a-text & a-number & a-code q & a-number & none_left) = simp (backed _ _ _ qualifier-coded _ q)
 
 row-L : SameValues 'L'
 unfolding body_from
-row-L _ (a-text & a-text & a-code y & a-code m & a-code p & none_left) = simp (yes_no-coded.back _ y, maker_mode-coded.back _ m, participant_state-coded.back _ p)
+row-L _ (a-text & a-text & a-code y & a-code m & a-code p & none_left) = simp (backed _ _ _ yes_no-coded _ y, backed _ _ _ maker_mode-coded _ m, backed _ _ _ participant_state-coded _ p)
 
 row-N : SameValues 'N'
 unfolding body_from
-row-N _ (a-text & a-code i & none_left) = simp (interest-coded.back _ i)
+row-N _ (a-text & a-code i & none_left) = simp (backed _ _ _ interest-coded _ i)
 
 row-P : SameValues 'P'
 unfolding body_from
-row-P _ (a-number & a-code s & a-number & a-text & a-number & a-number & none_left) = simp (side-coded.back _ s)
+row-P _ (a-number & a-code s & a-number & a-text & a-number & a-number & none_left) = simp (backed _ _ _ side-coded _ s)
 
 row-Q : SameValues 'Q'
 unfolding body_from
-row-Q _ (a-number & a-text & a-number & a-number & a-code x & none_left) = simp (cross-coded.back _ x)
+row-Q _ (a-number & a-text & a-number & a-number & a-code x & none_left) = simp (backed _ _ _ cross-coded _ x)
 
 row-R : SameValues 'R'
 unfolding body_from
-row-R _ (a-text & a-code c & a-code f & a-number & a-code y & a-code i & a-subtype u & a-code p & a-code h & a-code o & a-code l & a-code e & a-number & a-code v & none_left) = simp (category-coded.back _ c, status-coded.back _ f, yes_no-coded.back _ y, class-coded.back _ i, subtype-coded.back _ u, authenticity-coded.back _ p, flag-coded.back _ h, flag-coded.back _ o, tier-coded.back _ l, etp_flag-coded.back _ e, yes_no-coded.back _ v)
+row-R _ (a-text & a-code c & a-code f & a-number & a-code y & a-code i & a-subtype u & a-code p & a-code h & a-code o & a-code l & a-code e & a-number & a-code v & none_left) = simp (backed _ _ _ category-coded _ c, backed _ _ _ status-coded _ f, backed _ _ _ yes_no-coded _ y, backed _ _ _ class-coded _ i, backed _ _ _ subtype-coded _ u, backed _ _ _ authenticity-coded _ p, backed _ _ _ flag-coded _ h, backed _ _ _ flag-coded _ o, backed _ _ _ tier-coded _ l, backed _ _ _ etp_flag-coded _ e, backed _ _ _ yes_no-coded _ v)
 
 row-S : SameValues 'S'
 unfolding body_from
-row-S _ (a-code e & none_left) = simp (event-coded.back _ e)
+row-S _ (a-code e & none_left) = simp (backed _ _ _ event-coded _ e)
 
 row-U : SameValues 'U'
 unfolding body_from
@@ -126,7 +127,7 @@ row-V _ (a-number & a-number & a-number & none_left) = refl
 
 row-W : SameValues 'W'
 unfolding body_from
-row-W _ (a-code l & none_left) = simp (level-coded.back _ l)
+row-W _ (a-code l & none_left) = simp (backed _ _ _ level-coded _ l)
 
 row-X : SameValues 'X'
 unfolding body_from
@@ -134,15 +135,15 @@ row-X _ (a-number & a-number & none_left) = refl
 
 row-Y : SameValues 'Y'
 unfolding body_from
-row-Y _ (a-text & a-code a & none_left) = simp (action-coded.back _ a)
+row-Y _ (a-text & a-code a & none_left) = simp (backed _ _ _ action-coded _ a)
 
 row-h : SameValues 'h'
 unfolding body_from
-row-h _ (a-text & a-code m & a-code a & none_left) = simp (market-coded.back _ m, halt-coded.back _ a)
+row-h _ (a-text & a-code m & a-code a & none_left) = simp (backed _ _ _ market-coded _ m, backed _ _ _ halt-coded _ a)
 
 row-O : SameValues 'O'
 unfolding body_from
-row-O _ (a-text & a-code y & a-number & a-number & a-number & a-number & a-number & a-number & none_left) = simp (yes_no-coded.back _ y)
+row-O _ (a-text & a-code y & a-number & a-number & a-number & a-number & a-number & a-number & none_left) = simp (backed _ _ _ yes_no-coded _ y)
 
 data Each (P : ℕ → Type 0) : List Row → Type 0 where
   no_rows : Each P []

@@ -8,7 +8,7 @@ use mathlib.Core.List.{List}
 use mathlib.Core.Logic.{⊎_elim}
 use lib.ListN.{length}
 use Rattle.format.proofs.Tests.{le-or-lt}
-use Rattle.reader.specs.declared.Window.{Window}
+use Rattle.reader.specs.Window.{Window}
 use Rattle.walk.specs.declared.Walk.{Walk}
 use Rattle.text.specs.Decimal.{Wrote, Puts}
 use Rattle.lines.specs.declared.Blocked.{Blocked}
@@ -21,7 +21,7 @@ equals e e' = e ∙ sym e'
 wrote-once : {t b a a' : List ℕ} {at r r' : ℕ} → Wrote t b at a r → Wrote t b at a' r' → (a ≡ a') × (r ≡ r')
 wrote-once p q = (equals p.bytes q.bytes, equals p.next q.next)
 
--- `decimal`, `number`, `byte` and `word` of text, `closing` of closing, `tally` of tally_lines
+-- `decimal`, `number`, `byte` and `bytes` of text, `closing` of closing, `tally` of tally_lines
 pub puts-once : {room : ℕ} {t b a a' : List ℕ} {at r r' : ℕ} → Puts room t b at a r → Puts room t b at a' r' → (a ≡ a') × (r ≡ r')
 puts-once {room} {t} {b} {a} {a'} {at} {r} {r'} p q =
     ⊎_elim (λ h. wrote-once (p.fits h) (q.fits h))

@@ -9,8 +9,7 @@ use native.Mathlib.Omega.{arith}
 use native.Mathlib.Nat.{zero-add}
 use lib.ListN.{length, take, drop, length-append, drop_of_length-le}
 use Rattle.format.specs.declared.Reading.{Reading}
-use Rattle.reader.specs.declared.Window.{Window}
-use Rattle.reader.specs.Window.{window_of}
+use Rattle.reader.specs.Window.{window_of, Window}
 use Rattle.walk.specs.declared.Walk.{Walk}
 use Rattle.walk.specs.Walk.{fresh_of, Lawful}
 use Rattle.walk.specs.Frames.{Entry, all_used, Ran, run_by, run, joined, accepts, walk_of, ran_of}

@@ -10,7 +10,7 @@ use native.Mathlib.Nat.{zero-add}
 use lib.ListN.{length, take, drop, length-append, length-drop, drop_of_length-le}
 use lib.Seq.{drop-drop}
 use Rattle.format.proofs.Tests.{le-or-lt}
-use Rattle.reader.specs.declared.Window.{Window}
+use Rattle.reader.specs.Window.{Window}
 use Rattle.walk.specs.declared.Walk.{Walk}
 use Rattle.walk.specs.Walk.{frame_size, frame_of, past_of, more_of, done_of, step_of, Lawful}
 use Rattle.walk.specs.Frames.{Entry, Ran, told, run_by, run, pad}

@@ -2,7 +2,7 @@
 -- front of the buffer is written. All calls are quiet, or none is.
 -- Assumes nothing.
 use Rattle.std.specs.Prelude.{ℕ, ◌≤◌, Bool, List, [], ◌∷◌, ◌++◌, length, take, drop}
-use Rattle.reader.specs.declared.Window.{Window}
+use Rattle.reader.specs.Window.{Window}
 use Rattle.walk.specs.declared.Walk.{Walk}
 use Rattle.lines.specs.declared.Blocked.{Blocked}
 use Rattle.lines.specs.Blocks.{Called}

@@ -7,17 +7,19 @@ use Prim.Native.Nat.{ℕ, ◌+◌, ◌≤◌}
 use native.Mathlib.Omega.{arith}
 use lib.ListN.{length, take, drop}
 use lib.Seq.{sets, sets-eq, length-sets, take_at}
+use Rattle.std.proofs.Common.{Result, Ok, Err, inl, inr}
+use Rattle.std.specs.Result.{is_ok}
 use Rattle.format.specs.Utf8.{well_formed}
 use Rattle.format.specs.Layout.{text, be, part, got, judge, placed, field}
-use Rattle.format.specs.Meaning.{fault_m}
+use Rattle.format.specs.Meaning.{IsWidth, fault_m, field_m}
 use Rattle.format.specs.declared.Fault.{Fault}
 use Rattle.format.specs.declared.Fault.TheVariants.{Short, Refused}
 use Rattle.format.proofs.Fields.{field-judged, text-cases}
-use Rattle.pen.specs.Encode.{digits}
-use Rattle.pen.proofs.Digits.{length_digits}
+use Rattle.pen.specs.Encode.{digits, put_in}
+use Rattle.pen.proofs.Digits.{length_digits, put-fits}
 
 -- the field that a text's bytes are, in a buffer of their length
-text_of : (w v : ℕ) (l : List ℕ) → length l ≡ w
+text_of : (w v : ℕ) (l : List ℕ) → w ≤ length l
     → field (text w) (sets l 0 (digits w v)) 0 ≡ placed 0 (judge (text w) (digits w v))
 text_of w v l h =
     let d : List ℕ = digits w v in
@@ -37,14 +39,16 @@ found-bad w bs f = text-cases (λ x. placed 0 x ≡ fault_m f → false ≡ well
   where
     no-fault : (f : Fault) → got (be bs) ≡ fault_m f → ⊥
     no-fault Short e = let z : ◌≡◌ {A = ℕ} 0 1 = cc in omega arith
-    no-fault (Refused n p) e = let z : ◌≡◌ {A = ℕ} 0 1 = cc in omega arith
+    no-fault (Refused r) e = let z : ◌≡◌ {A = ℕ} 0 1 = cc in omega arith
 
-pub text-yes : (w v : ℕ) (l : List ℕ) {s : List ℕ} {n : ℕ} → length l ≡ w → s ≡ sets l 0 (digits w v) → field (text w) s 0 ≡ got n
-    → true ≡ well_formed (digits w v)
-text-yes w v l {n = n} h q e =
-    found-fine w (digits w v) n (sym (text_of w v l h) ∙ sym (ap (λ t. field (text w) t 0) q) ∙ e)
+pub text-told : (w v : ℕ) (l : List ℕ) {A : Type 0} (m : A → ℕ) (r : Result A Fault) → w ≤ length l → field_m m r ≡ field (text w) (put_in l 0 (digits w v)) 0
+    → is_ok r ≡ well_formed (digits w v)
+text-told w v l m (Ok x) h e = found-fine w (digits w v) (m x) (sym (rw (put-fits l 0 w v (omega arith)) at e ∙ text_of w v l h))
+text-told w v l m (Err f) h e = found-bad w (digits w v) f (sym (rw (put-fits l 0 w v (omega arith)) at e ∙ text_of w v l h))
 
-pub text-no : (w v : ℕ) (l : List ℕ) {s : List ℕ} (f : Fault) → length l ≡ w → s ≡ sets l 0 (digits w v) → field (text w) s 0 ≡ fault_m f
-    → false ≡ well_formed (digits w v)
-text-no w v l f h q e =
-    found-bad w (digits w v) f (sym (text_of w v l h) ∙ sym (ap (λ t. field (text w) t 0) q) ∙ e)
+-- no number has more than eight bytes
+pub eight_at_most : {w : ℕ} → IsWidth w → w ≤ 8
+eight_at_most (inl q) = omega arith
+eight_at_most (inr (inl q)) = omega arith
+eight_at_most (inr (inr (inl q))) = omega arith
+eight_at_most (inr (inr (inr q))) = omega arith

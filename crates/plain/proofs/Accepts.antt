@@ -10,6 +10,7 @@ use lib.Bits.{bit_and}
 use lib.Dec.{leb, ltb, eqb}
 use lib.ListN.{length, get_or}
 use lib.Seq.{ext_get_or}
+use Rattle.std.specs.Prelude.{Ok}
 use Rattle.format.specs.Layout.{be, part, day, accepted}
 use Rattle.format.specs.Rows.{fields_in, body_in, window}
 use Rattle.format.specs.Rows as Rows
@@ -22,7 +23,6 @@ use Rattle.format.proofs.Strict.{window-strictly}
 use Rattle.format.proofs.Tests.{and_split}
 use Rattle.format.proofs.Windows.{pre, window-there}
 use Rattle.records.specs.declared.Message.{Message}
-use Rattle.reader.specs.declared.Window.TheVariants.{Message as Accepted}
 use Rattle.reader.specs.Window.{message_from, window_from, window_of}
 use Rattle.plain.specs.Plain.{Table, end_by, plain_of, tight_by, strictly_of}
 use Rattle.plain.proofs.Bodies.{light-reads, found-end, Lit, by-table}
@@ -133,7 +133,7 @@ module _ (w : List ℕ) {row n : ℕ} (l : Lit w row n) (long : 52 ≤ length w)
 -- a message in front, by a reading, that ends at n
 pub record Front (rd : Reading) (w : List ℕ) (n : ℕ) : Type 0 where
   pub message : Message
-  pub accepted : window_of rd w ≡ Accepted message n
+  pub accepted : window_of rd w ≡ Ok (message, n)
   pub tag : message.tag ≡ get_or w 2 0
 
 -- by the values of a plain body

@@ -68,16 +68,16 @@ pub light-reads : (order : Bool) (ks : List Kind) (s : List ℕ) (at : ℕ) → 
 light-reads order [] s at t h p = ([], end)
 light-reads order (num w ∷ ks) s at t h p =
     let r = light-reads order ks s (at + w) t (omega arith) p in
-    (_, sym (field-num w s at (omega arith) refl) ⨾ r.1)
+    (_, field-num w s at (omega arith) refl ⨾ r.1)
 light-reads order (time ∷ ks) s at t h p = absurd t
 light-reads order (text w ∷ ks) s at t h p =
     let q = both (order && (eqb at 26 && eqb w 8)) (light order ks (at + w)) t in
     let r = light-reads order ks s (at + w) q.1 (omega arith) p in
-    (_, at-26 order w s at q.0 (omega arith) p ⨾ r.1)
+    (_, sym (at-26 order w s at q.0 (omega arith) p) ⨾ r.1)
 light-reads order (code set ∷ ks) s at t h p =
     let q = both (order && (eqb at 21 && same set side)) (light order ks (at + 1)) t in
     let r = light-reads order ks s (at + 1) q.1 (omega arith) p in
-    (_, at-21 order set s at q.0 (omega arith) p ⨾ r.1)
+    (_, sym (at-21 order set s at q.0 (omega arith) p) ⨾ r.1)
 light-reads order (subtype ∷ ks) s at t h p = absurd t
 
 -- what a place that is not zero says of the two rows and the stock

@@ -8,7 +8,6 @@ ghost use Rattle.plain.specs.Plain.{Table, end_by, plain_of, tight_by, strictly_
 
 mod table;
 
-use format::Num64;
 use table::{NUMBERS, ORDER, ROWS, SIDE};
 
 // Eight bytes: of each its high bit; and of each all but that.
@@ -23,9 +22,6 @@ const SPACES: u64 = 0x6060606060606060;
 
 // The time is the last six bytes of the number at 5, behind the tracking number: its remainder by this.
 const TIMES: u64 = 0x1000000000000;
-
-// A day, in nanoseconds.
-const DAY: u64 = 86400000000000;
 
 // The table of a reading, to be lent: indexed where it is used, it would be built anew at each use. By a strict reading's nothing is plain, so that a loop
 // which lends it need not ask at each message how it reads.
@@ -61,15 +57,15 @@ fn end_by(r: u64, c: u64, stock: u64) -> usize
     (r % 128) as usize
 }
 
-// The end of the message in front, where it is a plain one and the window has 52 bytes; else zero. No branch is taken by the tag or the side.
+// The end of the message in front, where it is a plain one and the window has 52 bytes; else zero, and no Option, since the definition `plain_of` says it so. No
+// branch is taken by the tag or the side.
 pub fn plain(w: &[u8], rows: &[u64; 256]) -> usize
     ensures { result ≡ plain_of w.now rows.now }
 {
     if w.len() < 52 {
         return 0;
     }
-    let f = format::be_u64(w, 26);
-    let Num64::Got(stock) = f else {
+    let Ok(stock) = format::number_at(w, 26) else {
         return 0;
     };
     end_by(row(rows, w[2]), row(rows, w[21]), stock)
@@ -80,7 +76,7 @@ pub fn plain(w: &[u8], rows: &[u64; 256]) -> usize
 fn tight(v: u64, r: u64, stock: u64) -> bool
     ensures { result ≡ tight_by v r stock }
 {
-    if v % TIMES >= DAY {
+    if v % TIMES >= format::DAY {
         return false;
     }
     let high = r / ORDER * HIGHS;
@@ -98,14 +94,12 @@ pub fn strictly(w: &[u8], rows: &[u64; 256]) -> usize
     if w.len() < 52 {
         return 0;
     }
-    let f = format::be_u64(w, 26);
-    let Num64::Got(stock) = f else {
+    let Ok(stock) = format::number_at(w, 26) else {
         return 0;
     };
     let r = row(rows, w[2]);
     let n = end_by(r, row(rows, w[21]), stock);
-    let g = format::be_u64(w, 5);
-    let Num64::Got(v) = g else {
+    let Ok(v) = format::number_at(w, 5) else {
         return 0;
     };
     if !tight(v, r, stock) {

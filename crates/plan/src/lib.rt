@@ -17,23 +17,22 @@ pub enum Plan {
 }
 
 // The byte at a place of what `put_in` gives, found without putting.
-fn byte_at(held: [u8; 52], seen: usize, piece: &[u8], i: usize) -> u8
+fn byte_at(w: &Walk, piece: &[u8], i: usize) -> u8
     requires { i < 52 }
-    ensures { result ≡ get_or (put held seen piece.now) i 0 }
+    ensures { result ≡ get_or (put w.now.held w.now.seen piece.now) i 0 }
 {
-    if i < seen {
-        return held[i];
+    match i.checked_sub(w.seen) {
+        Some(k) if k < piece.len() => piece[k],
+        _ => w.held[i],
     }
-    let k = i - seen;
-    if k < piece.len() { piece[k] } else { held[i] }
 }
 
 // The size of the current frame: its length bytes are held, or the piece brings them.
-fn size_at(held: [u8; 52], seen: usize, piece: &[u8]) -> usize
-    ensures { result ≡ frame_size (put held seen piece.now) }
+fn size_at(w: &Walk, piece: &[u8]) -> usize
+    ensures { result ≡ frame_size (put w.now.held w.now.seen piece.now) }
 {
-    let a = byte_at(held, seen, piece, 0);
-    let b = byte_at(held, seen, piece, 1);
+    let a = byte_at(w, piece, 0);
+    let b = byte_at(w, piece, 1);
     walk::size_by(a, b)
 }
 
@@ -45,18 +44,14 @@ pub fn plan_step(w: Walk, piece: &[u8]) -> Plan
     if !walk::sound(w) {
         return Plan::Refuse(30);
     }
-    let offset = w.offset;
-    let seen = w.seen;
-    let n = piece.len();
-    if !walk::room(offset, seen, n) {
+    if !walk::room(w.offset, w.seen, piece.len()) {
         return Plan::Refuse(33);
     }
-    let held = w.held;
-    let size = size_at(held, seen, piece);
-    let total = seen + n;
+    let size = size_at(&w, piece);
+    let total = w.seen + piece.len();
     if size <= total {
         return Plan::End {
-            used: size - seen,
+            used: size - w.seen,
             size,
         };
     }

@@ -1,11 +1,11 @@
 // A slice plays the reader, handed over in pieces of a given width: trying the window and fetching call each other until there is an answer.
 #![tactic(auto)]
 
-ghost use Rattle.std.specs.Prelude.{◌≡◌, ◌++◌, ◌+◌, ◌-◌, ◌≤◌, length, take, drop};
+ghost use Rattle.std.specs.Prelude.{◌≡◌, ◌≤◌, length};
 ghost use Rattle.play.specs.Play.{portion_of, filled, try_of, fetch_of, play_of};
 
 use format::Reading;
-use stream::{Answer, Stream};
+use stream::{Answer, Step, Stream};
 
 // What a call leaves: the state, the position in the slice, and the answer.
 #[derive(Clone, Copy)]
@@ -15,107 +15,73 @@ pub struct Played {
     pub answer: Answer,
 }
 
-// How many bytes of a piece: at most the room, the width and the unread bytes.
-fn piece(room: usize, unread: usize, width: usize) -> usize
-    ensures { result ≡ portion_of room unread width }
+// Puts a piece of the unread bytes at the front of the free part; the rest of it stays. Answers how many bytes came: at most the room, the width and the
+// unread bytes.
+fn fill(free: &mut [u8], unread: &[u8], width: usize) -> usize
+    ensures value { result ≡ portion_of (length free.old) (length unread.now) width }
+    ensures free_after { free.new ≡ filled free.old result unread.now }
 {
-    if width < unread {
-        if room < width { room } else { width }
-    } else if room < unread {
-        room
-    } else {
-        unread
-    }
-}
-
-// Puts n bytes of src, from `at` on, at the front of `free`; the rest of it stays.
-fn copy_in(free: &mut [u8], src: &[u8], at: usize, n: usize)
-    requires { (n ≤ length free.old) × (at + n ≤ length src.now) }
-    ensures { free.new ≡ filled free.old n (drop at src.now) }
-{
-    let mut i = 0;
-    while i < n {
-        free[i] = src[at + i];
-        i += 1;
-    }
-}
-
-// The free part of the buffer, from end onward, is lent out to be filled. Answers how many bytes came.
-fn fill(buf: &mut [u8], end: usize, src: &[u8], at: usize, width: usize) -> usize
-    requires { (end ≤ length buf.old) × (at ≤ length src.now) }
-    ensures value { result ≡ portion_of (length buf.old - end) (length src.now - at) width }
-    ensures buf_after { buf.new ≡ take end buf.old ++ filled (drop end buf.old) result (drop at src.now) }
-{
-    let n = piece(buf.len() - end, src.len() - at, width);
-    copy_in(&mut buf[end..], src, at, n);
+    let n = free.len().min(width.min(unread.len()));
+    free[..n].copy_from_slice(&unread[..n]);
     n
 }
 
-// Tries the window by a reading; where it wants bytes, fetches.
-#[cycle(fetch_try_window)]
-fn try_window(
-    s: Stream,
-    buf: &mut [u8],
-    src: &[u8],
-    at: usize,
+// What is played: a slice, in pieces of a width and by a reading.
+#[derive(Clone, Copy)]
+struct Tape<'a> {
+    src: &'a [u8],
     width: usize,
     reading: Reading,
-) -> Played
-    requires { at ≤ length src.now }
-    ensures value { result ≡ (try_of reading src.now width s buf.old at).played }
-    ensures buf_after { buf.new ≡ (try_of reading src.now width s buf.old at).buffer }
+}
+
+// Where a call of the stream ends the playing, at a position.
+fn ending(step: Step, at: usize) -> Played
+    ensures { result ≡ record { state = step.state; at = at; answer = step.answer } }
 {
-    let step = stream::next_of(s, &buf[..], reading);
-    let state = step.state;
-    let answer = step.answer;
-    let Answer::Wants = answer else {
-        return Played { state, at, answer };
+    Played {
+        state: step.state,
+        at,
+        answer: step.answer,
+    }
+}
+
+// Tries the window by the reading; where it wants bytes, fetches.
+#[cycle(fetch_try_window)]
+fn try_window(s: Stream, buf: &mut [u8], tape: Tape, at: usize) -> Played
+    requires { at ≤ length tape.src.now }
+    ensures value { result ≡ (try_of tape.entry.reading tape.entry.src.now tape.entry.width s buf.old at).played }
+    ensures buf_after { buf.new ≡ (try_of tape.entry.reading tape.entry.src.now tape.entry.width s buf.old at).buffer }
+{
+    let tried = stream::next_of(s, buf, tape.reading);
+    let Answer::Wants = tried.answer else {
+        return ending(tried, at);
     };
-    fetch(state, buf, src, at, width, reading)
+    fetch(tried.state, buf, tape, at)
 }
 
 // Makes room, hands the free part on to be filled, tells how many bytes came, and tries again.
 #[cycle(fetch_try_window)]
-fn fetch(s: Stream, buf: &mut [u8], src: &[u8], at: usize, width: usize, reading: Reading) -> Played
-    requires { at ≤ length src.now }
-    ensures value { result ≡ (fetch_of reading src.now width s buf.old at).played }
-    ensures buf_after { buf.new ≡ (fetch_of reading src.now width s buf.old at).buffer }
+fn fetch(s: Stream, buf: &mut [u8], tape: Tape, at: usize) -> Played
+    requires { at ≤ length tape.src.now }
+    ensures value { result ≡ (fetch_of tape.entry.reading tape.entry.src.now tape.entry.width s buf.old at).played }
+    ensures buf_after { buf.new ≡ (fetch_of tape.entry.reading tape.entry.src.now tape.entry.width s buf.old at).buffer }
 {
-    let step = refill::make_room_of(s, buf);
-    let state = step.state;
-    let answer = step.answer;
-    let Answer::Ready = answer else {
-        return Played { state, at, answer };
+    let room = refill::make_room_of(s, buf);
+    let Answer::Ready = room.answer else {
+        return ending(room, at);
     };
-    let end = state.end;
-    let n = fill(buf, end, src, at, width);
-    let told = refill::told_of(state, n);
-    let fed = told.state;
-    let said = told.answer;
+    let n = fill(&mut buf[room.state.end..], &tape.src[at..], tape.width);
     let next = at + n;
-    let Answer::Ready = said else {
-        return Played {
-            state: fed,
-            at: next,
-            answer: said,
-        };
+    let told = refill::told_of(room.state, n);
+    let Answer::Ready = told.answer else {
+        return ending(told, next);
     };
-    try_window(fed, buf, src, next, width, reading)
-}
-
-// A refusal before the window is tried: the state and the position stay.
-fn stopped(s: Stream, at: usize, number: u8) -> Played
-    ensures { result ≡ record { state = s; at = at; answer = Answer.Refused number 0 } }
-{
-    Played {
-        state: s,
-        at,
-        answer: Answer::Refused(number, 0),
-    }
+    try_window(told.state, buf, tape, next)
 }
 
 // Reads on in the slice `src` from position `at`, in pieces of `width` bytes and by a reading, to the first answer that does not want bytes: a message,
 // nothing more or a refusal. The position moves on by what was fetched. First come 31, 30 (also for a position past the slice) and 35.
+#[tactic(auto, using(std::proofs::lemmas::Bool::Decides::nat_tests), unfolding(crate::specs::Play::play_of))]
 pub fn play(
     s: Stream,
     buf: &mut [u8],
@@ -127,22 +93,22 @@ pub fn play(
     ensures value { result ≡ (play_of reading src.now width s buf.old at).played }
     ensures buf_after { buf.new ≡ (play_of reading src.now width s buf.old at).buffer }
 {
-    let start = s.start;
-    let end = s.end;
     if buf.len() != 8192 {
-        return stopped(s, at, 31);
+        return ending(stream::refused(s, 31), at);
     }
-    if start > end {
-        return stopped(s, at, 30);
-    }
-    if end > 8192 {
-        return stopped(s, at, 30);
+    if !s.in_bounds() {
+        return ending(stream::refused(s, 30), at);
     }
     if at > src.len() {
-        return stopped(s, at, 30);
+        return ending(stream::refused(s, 30), at);
     }
     if width == 0 {
-        return stopped(s, at, 35);
+        return ending(stream::refused(s, 35), at);
     }
-    try_window(s, buf, src, at, width, reading)
+    let tape = Tape {
+        src,
+        width,
+        reading,
+    };
+    try_window(s, buf, tape, at)
 }

@@ -7,20 +7,24 @@ ghost use Rattle.pen.specs.Encode.{PutBody};
 ghost use Rattle.records.specs.Values.{values};
 ghost use Rattle.put_bodies.specs.Mpids.{PutMpid};
 
-use codes::{EventCode, HaltAction, LevelBreached, MarketCode, RegShoAction, TradingState};
+use codes::{
+    Authenticity, Code, CrossType, EtpFlag, EventCode, FinancialStatus, Flag, HaltAction,
+    ImbalanceDirection, InterestFlag, IpoReleaseQualifier, IssueClassification, LevelBreached,
+    LuldRefPriceTier, MarketCategory, MarketCode, MarketMakerMode, MarketParticipantState,
+    RegShoAction, Side, TradingState, YesNo,
+};
 use records::{
     AddOrder, Body, CrossTrade, DirectListing, ImbalanceIndicator, IpoQuotingPeriod,
-    MarketParticipantPosition, Mpid, NonCrossTrade, Price4, Price8, ReplaceOrder,
+    MarketParticipantPosition, NonCrossTrade, Price4, Price8, ReplaceOrder,
     RetailPriceImprovementIndicator, StockDirectory, Text4, Text8,
 };
 
 // What only F has: the participant, at place 38.
-fn put_mpid(buf: &mut [u8], mpid: Mpid)
+fn put_mpid(buf: &mut [u8], mpid: Option<Text4>)
     ensures { PutMpid buf.old mpid buf.new }
 {
-    match mpid {
-        Mpid::Absent => {}
-        Mpid::Present(v) => pen::set_u32(buf, 38, v),
+    if let Some(v) = mpid {
+        pen::set(buf, 38, v);
     }
 }
 
@@ -28,21 +32,19 @@ fn put_mpid(buf: &mut [u8], mpid: Mpid)
 pub fn put_add_order(buf: &mut [u8], x: AddOrder)
     ensures { PutBody buf.old (values (Body.AddOrder x)) buf.new }
 {
-    let side = x.side;
-    let mpid = x.mpid;
-    pen::set_u64(buf, 13, x.reference);
-    pen::set_u8(buf, 21, codes::side_code(side));
-    pen::set_u32(buf, 22, x.shares);
-    pen::set_u64(buf, 26, x.stock);
-    pen::set_u32(buf, 34, x.price);
-    put_mpid(buf, mpid);
+    pen::set(buf, 13, x.reference);
+    pen::set(buf, 21, Side::byte(x.side));
+    pen::set(buf, 22, x.shares);
+    pen::set(buf, 26, x.stock);
+    pen::set(buf, 34, x.price);
+    put_mpid(buf, x.mpid);
 }
 
 // Puts the body of B, a broken trade.
 pub fn put_broken_trade(buf: &mut [u8], match_number: u64)
     ensures { PutBody buf.old (values (Body.BrokenTrade match_number)) buf.new }
 {
-    pen::set_u64(buf, 13, match_number);
+    pen::set(buf, 13, match_number);
 }
 
 // Puts the body of C, an order executed with a price.
@@ -56,27 +58,27 @@ pub fn put_order_executed_with_price(
 )
     ensures { PutBody buf.old (values (Body.OrderExecutedWithPrice reference executed match_number printable price)) buf.new }
 {
-    pen::set_u64(buf, 13, reference);
-    pen::set_u32(buf, 21, executed);
-    pen::set_u64(buf, 25, match_number);
-    pen::set_u8(buf, 33, codes::yes_no_code(printable));
-    pen::set_u32(buf, 34, price);
+    pen::set(buf, 13, reference);
+    pen::set(buf, 21, executed);
+    pen::set(buf, 25, match_number);
+    pen::set(buf, 33, YesNo::byte(printable));
+    pen::set(buf, 34, price);
 }
 
 // Puts the body of D, a deleted order.
 pub fn put_delete_order(buf: &mut [u8], reference: u64)
     ensures { PutBody buf.old (values (Body.DeleteOrder reference)) buf.new }
 {
-    pen::set_u64(buf, 13, reference);
+    pen::set(buf, 13, reference);
 }
 
 // Puts the body of E, an executed order.
 pub fn put_order_executed(buf: &mut [u8], reference: u64, executed: u32, match_number: u64)
     ensures { PutBody buf.old (values (Body.OrderExecuted reference executed match_number)) buf.new }
 {
-    pen::set_u64(buf, 13, reference);
-    pen::set_u32(buf, 21, executed);
-    pen::set_u64(buf, 25, match_number);
+    pen::set(buf, 13, reference);
+    pen::set(buf, 21, executed);
+    pen::set(buf, 25, match_number);
 }
 
 // Puts the body of H, a trading action.
@@ -89,27 +91,25 @@ pub fn put_trading_action(
 )
     ensures { PutBody buf.old (values (Body.TradingAction stock trading_state reserved reason)) buf.new }
 {
-    pen::set_u64(buf, 13, stock);
-    pen::set_u8(buf, 21, codes::trading_state_code(trading_state));
-    pen::set_u8(buf, 22, reserved);
-    pen::set_u32(buf, 23, reason);
+    pen::set(buf, 13, stock);
+    pen::set(buf, 21, TradingState::byte(trading_state));
+    pen::set(buf, 22, reserved);
+    pen::set(buf, 23, reason);
 }
 
 // Puts the body of I, an imbalance.
 pub fn put_imbalance_indicator(buf: &mut [u8], x: ImbalanceIndicator)
     ensures { PutBody buf.old (values (Body.Imbalance x)) buf.new }
 {
-    let imbalance_direction = x.imbalance_direction;
-    let cross_type = x.cross_type;
-    pen::set_u64(buf, 13, x.paired_shares);
-    pen::set_u64(buf, 21, x.imbalance_shares);
-    pen::set_u8(buf, 29, codes::direction_code(imbalance_direction));
-    pen::set_u64(buf, 30, x.stock);
-    pen::set_u32(buf, 38, x.far_price);
-    pen::set_u32(buf, 42, x.near_price);
-    pen::set_u32(buf, 46, x.current_ref_price);
-    pen::set_u8(buf, 50, codes::cross_code(cross_type));
-    pen::set_u8(buf, 51, x.price_variation_indicator);
+    pen::set(buf, 13, x.paired_shares);
+    pen::set(buf, 21, x.imbalance_shares);
+    pen::set(buf, 29, ImbalanceDirection::byte(x.imbalance_direction));
+    pen::set(buf, 30, x.stock);
+    pen::set(buf, 38, x.far_price);
+    pen::set(buf, 42, x.near_price);
+    pen::set(buf, 46, x.current_ref_price);
+    pen::set(buf, 50, CrossType::byte(x.cross_type));
+    pen::set(buf, 51, x.price_variation_indicator);
 }
 
 // Puts the body of J, an auction collar.
@@ -123,38 +123,35 @@ pub fn put_luld_auction_collar(
 )
     ensures { PutBody buf.old (values (Body.LULDAuctionCollar stock ref_price upper_price lower_price extension)) buf.new }
 {
-    pen::set_u64(buf, 13, stock);
-    pen::set_u32(buf, 21, ref_price);
-    pen::set_u32(buf, 25, upper_price);
-    pen::set_u32(buf, 29, lower_price);
-    pen::set_u32(buf, 33, extension);
+    pen::set(buf, 13, stock);
+    pen::set(buf, 21, ref_price);
+    pen::set(buf, 25, upper_price);
+    pen::set(buf, 29, lower_price);
+    pen::set(buf, 33, extension);
 }
 
 // Puts the body of K, an IPO quoting period.
 pub fn put_ipo_quoting_period(buf: &mut [u8], x: IpoQuotingPeriod)
     ensures { PutBody buf.old (values (Body.IpoQuotingPeriod x)) buf.new }
 {
-    let release_qualifier = x.release_qualifier;
-    pen::set_u64(buf, 13, x.stock);
-    pen::set_u32(buf, 21, x.release_time);
-    pen::set_u8(buf, 25, codes::qualifier_code(release_qualifier));
-    pen::set_u32(buf, 26, x.price);
+    pen::set(buf, 13, x.stock);
+    pen::set(buf, 21, x.release_time);
+    pen::set(buf, 25, IpoReleaseQualifier::byte(x.release_qualifier));
+    pen::set(buf, 26, x.price);
 }
 
 // Puts the body of L, a participant's position.
 pub fn put_participant_position(buf: &mut [u8], x: MarketParticipantPosition)
     ensures { PutBody buf.old (values (Body.ParticipantPosition x)) buf.new }
 {
-    let market_maker_mode = x.market_maker_mode;
-    let market_participant_state = x.market_participant_state;
-    pen::set_u32(buf, 13, x.mpid);
-    pen::set_u64(buf, 17, x.stock);
-    pen::set_u8(buf, 25, codes::yes_no_code(x.primary_market_maker));
-    pen::set_u8(buf, 26, codes::maker_mode_code(market_maker_mode));
-    pen::set_u8(
+    pen::set(buf, 13, x.mpid);
+    pen::set(buf, 17, x.stock);
+    pen::set(buf, 25, YesNo::byte(x.primary_market_maker));
+    pen::set(buf, 26, MarketMakerMode::byte(x.market_maker_mode));
+    pen::set(
         buf,
         27,
-        codes::participant_state_code(market_participant_state),
+        MarketParticipantState::byte(x.market_participant_state),
     );
 }
 
@@ -162,111 +159,100 @@ pub fn put_participant_position(buf: &mut [u8], x: MarketParticipantPosition)
 pub fn put_retail_price_improvement_indicator(buf: &mut [u8], x: RetailPriceImprovementIndicator)
     ensures { PutBody buf.old (values (Body.RetailPriceImprovementIndicator x)) buf.new }
 {
-    let interest_flag = x.interest_flag;
-    pen::set_u64(buf, 13, x.stock);
-    pen::set_u8(buf, 21, codes::interest_code(interest_flag));
+    pen::set(buf, 13, x.stock);
+    pen::set(buf, 21, InterestFlag::byte(x.interest_flag));
 }
 
 // Puts the body of P, a trade that is no cross.
 pub fn put_noncross_trade(buf: &mut [u8], x: NonCrossTrade)
     ensures { PutBody buf.old (values (Body.NonCrossTrade x)) buf.new }
 {
-    let side = x.side;
-    pen::set_u64(buf, 13, x.reference);
-    pen::set_u8(buf, 21, codes::side_code(side));
-    pen::set_u32(buf, 22, x.shares);
-    pen::set_u64(buf, 26, x.stock);
-    pen::set_u32(buf, 34, x.price);
-    pen::set_u64(buf, 38, x.match_number);
+    pen::set(buf, 13, x.reference);
+    pen::set(buf, 21, Side::byte(x.side));
+    pen::set(buf, 22, x.shares);
+    pen::set(buf, 26, x.stock);
+    pen::set(buf, 34, x.price);
+    pen::set(buf, 38, x.match_number);
 }
 
 // Puts the body of Q, a cross trade.
 pub fn put_cross_trade(buf: &mut [u8], x: CrossTrade)
     ensures { PutBody buf.old (values (Body.CrossTrade x)) buf.new }
 {
-    let cross_type = x.cross_type;
-    pen::set_u64(buf, 13, x.shares);
-    pen::set_u64(buf, 21, x.stock);
-    pen::set_u32(buf, 29, x.cross_price);
-    pen::set_u64(buf, 33, x.match_number);
-    pen::set_u8(buf, 41, codes::cross_code(cross_type));
+    pen::set(buf, 13, x.shares);
+    pen::set(buf, 21, x.stock);
+    pen::set(buf, 29, x.cross_price);
+    pen::set(buf, 33, x.match_number);
+    pen::set(buf, 41, CrossType::byte(x.cross_type));
 }
 
 // Puts the body of R, a stock directory.
 pub fn put_stock_directory(buf: &mut [u8], x: StockDirectory)
     ensures { PutBody buf.old (values (Body.StockDirectory x)) buf.new }
 {
-    let market_category = x.market_category;
-    let financial_status = x.financial_status;
-    let issue_classification = x.issue_classification;
-    let issue_subtype = x.issue_subtype;
-    let short_sale_threshold = x.short_sale_threshold;
-    let ipo_flag = x.ipo_flag;
-    let luld_ref_price_tier = x.luld_ref_price_tier;
-    let etp_flag = x.etp_flag;
-    pen::set_u64(buf, 13, x.stock);
-    pen::set_u8(buf, 21, codes::category_code(market_category));
-    pen::set_u8(buf, 22, codes::status_code(financial_status));
-    pen::set_u32(buf, 23, x.round_lot_size);
-    pen::set_u8(buf, 27, codes::yes_no_code(x.round_lots_only));
-    pen::set_u8(buf, 28, codes::class_code(issue_classification));
-    pen::set_u16(buf, 29, codes::subtype_code(issue_subtype));
-    pen::set_u8(buf, 31, codes::authenticity_code(x.authenticity));
-    pen::set_u8(buf, 32, codes::flag_code(short_sale_threshold));
-    pen::set_u8(buf, 33, codes::flag_code(ipo_flag));
-    pen::set_u8(buf, 34, codes::tier_code(luld_ref_price_tier));
-    pen::set_u8(buf, 35, codes::etp_flag_code(etp_flag));
-    pen::set_u32(buf, 36, x.etp_leverage_factor);
-    pen::set_u8(buf, 40, codes::yes_no_code(x.inverse_indicator));
+    pen::set(buf, 13, x.stock);
+    pen::set(buf, 21, MarketCategory::byte(x.market_category));
+    pen::set(buf, 22, FinancialStatus::byte(x.financial_status));
+    pen::set(buf, 23, x.round_lot_size);
+    pen::set(buf, 27, YesNo::byte(x.round_lots_only));
+    pen::set(buf, 28, IssueClassification::byte(x.issue_classification));
+    pen::set(buf, 29, codes::subtype_code(x.issue_subtype));
+    pen::set(buf, 31, Authenticity::byte(x.authenticity));
+    pen::set(buf, 32, Flag::byte(x.short_sale_threshold));
+    pen::set(buf, 33, Flag::byte(x.ipo_flag));
+    pen::set(buf, 34, LuldRefPriceTier::byte(x.luld_ref_price_tier));
+    pen::set(buf, 35, EtpFlag::byte(x.etp_flag));
+    pen::set(buf, 36, x.etp_leverage_factor);
+    pen::set(buf, 40, YesNo::byte(x.inverse_indicator));
 }
 
 // Puts the body of S, a system event.
 pub fn put_system_event(buf: &mut [u8], event: EventCode)
     ensures { PutBody buf.old (values (Body.SystemEvent event)) buf.new }
 {
-    pen::set_u8(buf, 13, codes::event_code(event));
+    pen::set(buf, 13, EventCode::byte(event));
 }
 
 // Puts the body of U, a replaced order.
 pub fn put_replace_order(buf: &mut [u8], x: ReplaceOrder)
     ensures { PutBody buf.old (values (Body.ReplaceOrder x)) buf.new }
 {
-    pen::set_u64(buf, 13, x.old_reference);
-    pen::set_u64(buf, 21, x.new_reference);
-    pen::set_u32(buf, 29, x.shares);
-    pen::set_u32(buf, 33, x.price);
+    pen::set(buf, 13, x.old_reference);
+    pen::set(buf, 21, x.new_reference);
+    pen::set(buf, 29, x.shares);
+    pen::set(buf, 33, x.price);
 }
 
 // Puts the body of V, the decline levels.
 pub fn put_mwcb_decline_level(buf: &mut [u8], level1: Price8, level2: Price8, level3: Price8)
     ensures { PutBody buf.old (values (Body.MwcbDeclineLevel level1 level2 level3)) buf.new }
 {
-    pen::set_u64(buf, 13, level1);
-    pen::set_u64(buf, 21, level2);
-    pen::set_u64(buf, 29, level3);
+    pen::set(buf, 13, level1);
+    pen::set(buf, 21, level2);
+    pen::set(buf, 29, level3);
 }
 
 // Puts the body of W, a breach of a level.
 pub fn put_breach(buf: &mut [u8], x: LevelBreached)
     ensures { PutBody buf.old (values (Body.Breach x)) buf.new }
 {
-    pen::set_u8(buf, 13, codes::level_code(x));
+    pen::set(buf, 13, LevelBreached::byte(x));
 }
 
 // Puts the body of X, a cancelled order.
 pub fn put_order_cancelled(buf: &mut [u8], reference: u64, cancelled: u32)
     ensures { PutBody buf.old (values (Body.OrderCancelled reference cancelled)) buf.new }
 {
-    pen::set_u64(buf, 13, reference);
-    pen::set_u32(buf, 21, cancelled);
+    pen::set(buf, 13, reference);
+    pen::set(buf, 21, cancelled);
 }
 
 // Puts the body of Y, a Reg SHO restriction.
 pub fn put_reg_sho_restriction(buf: &mut [u8], stock: Text8, action: RegShoAction)
     ensures { PutBody buf.old (values (Body.RegShoRestriction stock action)) buf.new }
 {
-    pen::set_u64(buf, 13, stock);
-    pen::set_u8(buf, 21, codes::action_code(action));
+    pen::set(buf, 13, stock);
+    pen::set(buf, 21, RegShoAction::byte(action));
 }
 
 // Puts the body of h, an operational halt, of the later edition.
@@ -278,21 +264,21 @@ pub fn put_operational_halt(
 )
     ensures { PutBody buf.old (values (Body.OperationalHalt stock market_code action)) buf.new }
 {
-    pen::set_u64(buf, 13, stock);
-    pen::set_u8(buf, 21, codes::market_code(market_code));
-    pen::set_u8(buf, 22, codes::halt_code(action));
+    pen::set(buf, 13, stock);
+    pen::set(buf, 21, MarketCode::byte(market_code));
+    pen::set(buf, 22, HaltAction::byte(action));
 }
 
 // Puts the body of O, a direct listing, of the later edition.
 pub fn put_direct_listing(buf: &mut [u8], x: DirectListing)
     ensures { PutBody buf.old (values (Body.DirectListing x)) buf.new }
 {
-    pen::set_u64(buf, 13, x.stock);
-    pen::set_u8(buf, 21, codes::yes_no_code(x.open_eligibility));
-    pen::set_u32(buf, 22, x.minimum_price);
-    pen::set_u32(buf, 26, x.maximum_price);
-    pen::set_u32(buf, 30, x.near_execution_price);
-    pen::set_u64(buf, 34, x.near_execution_time);
-    pen::set_u32(buf, 42, x.lower_collar);
-    pen::set_u32(buf, 46, x.upper_collar);
+    pen::set(buf, 13, x.stock);
+    pen::set(buf, 21, YesNo::byte(x.open_eligibility));
+    pen::set(buf, 22, x.minimum_price);
+    pen::set(buf, 26, x.maximum_price);
+    pen::set(buf, 30, x.near_execution_price);
+    pen::set(buf, 34, x.near_execution_time);
+    pen::set(buf, 42, x.lower_collar);
+    pen::set(buf, 46, x.upper_collar);
 }

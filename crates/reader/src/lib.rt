@@ -2,23 +2,20 @@
 // stands before anything refused.
 #![tactic(auto)]
 
-ghost use Rattle.std.specs.Prelude.{◌≡◌, cond, ◌&&◌, leb};
+ghost use Rattle.std.specs.Prelude.{◌≡◌, cond, ◌&&◌, leb, min, length, MatchResult};
 ghost use Rattle.format.specs.Ascii.{'O', 'h'};
 ghost use Rattle.format.specs.Layout.{day};
 ghost use Rattle.format.specs.Rows.{body_of, body_in, body_later, window};
 ghost use Rattle.records.specs.Values.{body_m};
+ghost use Rattle.format.specs.Strict.{stray_of};
 ghost use Rattle.reader.specs.Window.{window_m};
+ghost use Rattle.reader.specs.Strays.{reach_of, Strays};
 
-use format::{Edition, Fault, HeaderRead, Reading};
+use format::{Edition, Fault, Reading};
 use records::{BodyRead, Message};
 
-// What reading a window answers: a message and the bytes that it consumed; not all of it is there; refused, with number and place.
-#[derive(Clone, Copy)]
-pub enum Window {
-    Message(Message, usize),
-    Incomplete,
-    Refused(u8, usize),
-}
+// What reading a window answers: a message and the bytes that it consumed; or why there is none.
+pub type Window = Result<(Message, usize), Fault>;
 
 // The two bodies that the later edition adds. It is called from two places, so that it is compiled by itself, and the reader, which is compiled into
 // the loops above it, stays as small as it was.
@@ -37,11 +34,11 @@ fn parse_later(s: &[u8], tag: u8, reading: Reading) -> BodyRead
 {
     let edition = reading.edition;
     match edition {
-        Edition::Old => BodyRead::No(Fault::Refused(1, 2)),
+        Edition::Old => Err(format::refused(1, 2)),
         Edition::Later => match tag {
             b'h' => later_body(s, true),
             b'O' => later_body(s, false),
-            _ => BodyRead::No(Fault::Refused(1, 2)),
+            _ => Err(format::refused(1, 2)),
         },
     }
 }
@@ -75,72 +72,66 @@ fn parse_body(s: &[u8], tag: u8, reading: Reading) -> BodyRead
     }
 }
 
-// A day, in nanoseconds.
-const DAY: u64 = 86400000000000;
-
 // Whether a time is refused: in a strict reading, from a day on.
 fn late(strict: bool, timestamp: u64) -> bool
     ensures { result ≡ (strict && leb day timestamp) }
 {
-    if strict {
-        return timestamp >= DAY;
-    }
-    false
+    strict && timestamp >= format::DAY
 }
 
-// Reads one window by a reading: its message and the bytes consumed, incomplete, or the first bad field's number and place. A strict reading asks behind each
-// answer of the body whether a text strays: `stray` is so compiled by itself, and the ordinary reading pays for one test.
+// How far a body was read that has no value: to the field that is refused, and else through all that is there.
+fn reach(e: Fault, end: usize) -> usize
+    ensures { result ≡ reach_of e end }
+{
+    match e {
+        Fault::Short => end,
+        Fault::Refused(r) => r.place,
+    }
+}
+
+// Refuses the first text of a body that strays, of those that end no later than the limit. The reader asks it behind each answer of the body: so it is compiled by
+// itself, and the ordinary reading pays for one test.
+fn unstrayed(s: &[u8], tag: u8, limit: usize) -> Result<(), Fault>
+    ensures { MatchResult result (λ _. stray_of tag s.now (min limit (length s.now)) ≡ 0) (λ e. Strays (stray_of tag s.now (min limit (length s.now))) e) }
+{
+    let p = strays::stray(s, tag, limit);
+    if p != 0 {
+        return Err(format::refused(5, p));
+    }
+    Ok(())
+}
+
+// Reads one window by a reading: its message and the bytes consumed, or why there is none: it is incomplete, or the first bad field's number and place.
 pub fn parse_message(s: &[u8], reading: Reading) -> Window
     ensures { window_m result ≡ window reading s.now }
 {
-    let h = format::read_header(s);
-    let HeaderRead::Got(header) = h else {
-        return Window::Incomplete;
+    let Some(header) = format::read_header(s) else {
+        return Err(Fault::Short);
     };
     let tag = header.tag;
     let strict = reading.strict;
     if late(strict, header.timestamp) {
-        return Window::Refused(4, 7);
+        return Err(format::refused(4, 7));
     }
-    let b = parse_body(s, tag, reading);
-    match b {
-        BodyRead::Got(body, consumed) => {
+    match parse_body(s, tag, reading) {
+        Ok((body, consumed)) => {
             if strict {
-                let p = strays::stray(s, tag, s.len());
-                if p != 0 {
-                    return Window::Refused(5, p);
-                }
+                unstrayed(s, tag, s.len())?;
             }
-            Window::Message(
-                Message {
-                    tag,
-                    stock_locate: header.stock_locate,
-                    tracking_number: header.tracking_number,
-                    timestamp: header.timestamp,
-                    body,
-                },
-                consumed,
-            )
+            let message = Message {
+                tag,
+                stock_locate: header.stock_locate,
+                tracking_number: header.tracking_number,
+                timestamp: header.timestamp,
+                body,
+            };
+            Ok((message, consumed))
         }
-        BodyRead::No(e) => match e {
-            Fault::Short => {
-                if strict {
-                    let p = strays::stray(s, tag, s.len());
-                    if p != 0 {
-                        return Window::Refused(5, p);
-                    }
-                }
-                Window::Incomplete
+        Err(e) => {
+            if strict {
+                unstrayed(s, tag, reach(e, s.len()))?;
             }
-            Fault::Refused(n, place) => {
-                if strict {
-                    let p = strays::stray(s, tag, place);
-                    if p != 0 {
-                        return Window::Refused(5, p);
-                    }
-                }
-                Window::Refused(n, place)
-            }
-        },
+            Err(e)
+        }
     }
 }

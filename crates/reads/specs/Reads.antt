@@ -1,7 +1,7 @@
 -- Lists of cases. A list is cases, one behind the other. A case is reads, closed by ff ff. A read is two bytes n, high byte first: 0 to 8192, and n bytes
 -- behind it, which are brought, as many as the free part of the buffer takes, and the rest of them by the next read; or ff fe: the read fails.
 -- Assumes nothing.
-use Rattle.std.specs.Prelude.{ℕ, zero, suc, ◌+◌, ◌-◌, ◌*◌, min, Bool, true, false, cond, List, leb, ltb, eqb, length, get_or, take, drop}
+use Rattle.std.specs.Prelude.{ℕ, zero, suc, ◌+◌, ◌-◌, ◌*◌, min, Bool, true, false, cond, List, leb, ltb, eqb, length, get_or, take, drop, Option, None, Some}
 use Rattle.reads.specs.declared.Place.{Place}
 use Rattle.reads.specs.declared.Read.{Read}
 
@@ -53,7 +53,12 @@ unfoldable pub read_of : List ℕ → Place → ℕ → Read
 read_of list p room =
     let d = due_of list p in
     let n = held_of list d in
-    record { place = record { i = d.i; left = n - min n room }; count = min n room; failed = fails_of list p }
+    record { place = record { i = d.i; left = n - min n room }; came = cond (fails_of list p) None (Some (min n room)) }
+
+-- how many bytes came: none of a read that failed
+abbrev pub count_of : Option ℕ → ℕ
+count_of None = 0
+count_of (Some n) = n
 
 unfoldable pub brought_of : List ℕ → Place → ℕ → List ℕ
 brought_of list p room =

@@ -3,7 +3,7 @@
 #![tactic(auto)]
 
 ghost use Rattle.std.specs.Prelude.{◌+◌, ◌-◌, ◌≤◌, min, ◌++◌, ◌≡◌, length, take, drop};
-ghost use Rattle.reads.specs.Reads.{head_of, closes, is_read, brings_of, case_end_of, due_of, fails_of, held_of, read_of, brought_of, has_more_of};
+ghost use Rattle.reads.specs.Reads.{head_of, closes, is_read, brings_of, case_end_of, due_of, fails_of, held_of, read_of, brought_of, count_of, has_more_of};
 
 // The heads: the case's end, a read that fails, and the most bytes that a read brings.
 const CLOSED: usize = 0xffff;
@@ -12,72 +12,64 @@ const FAILS: usize = 0xfffe;
 
 const MOST: usize = 8192;
 
-fn wide(x: u8) -> usize
-    ensures { result ≡ x }
+// What stands from a place on.
+fn rest(list: &[u8], i: usize) -> &[u8]
+    ensures { result.now ≡ drop i list.now }
 {
-    x as usize
+    &list[i.min(list.len())..]
 }
 
-// The head at a place.
-fn head(list: &[u8], i: usize) -> usize
-    requires { i + 2 ≤ length list.now }
-    ensures { result ≡ head_of (drop i list.now) }
+// The head that a list begins with.
+fn head(t: &[u8]) -> usize
+    requires { 2 ≤ length t.now }
+    ensures { result ≡ head_of t.now }
 {
-    wide(list[i]) * 256 + wide(list[i + 1])
+    usize::from(t[0]) * 256 + usize::from(t[1])
 }
 
-// Whether a case's end stands at a place.
-fn closed(list: &[u8], i: usize) -> bool
-    requires { i ≤ length list.now }
-    ensures { result ≡ closes (drop i list.now) }
+// Whether it begins with a case's end.
+fn closed(t: &[u8]) -> bool
+    ensures { result ≡ closes t.now }
 {
-    if list.len() - i < 2 {
+    if t.len() < 2 {
         return false;
     }
-    head(list, i) == CLOSED
+    head(t) == CLOSED
 }
 
-// Whether a read stands at a place, with its bytes.
-fn is_read(list: &[u8], i: usize) -> bool
-    requires { i ≤ length list.now }
-    ensures { result ≡ is_read (drop i list.now) }
+// Whether it begins with a read, with its bytes.
+fn is_read(t: &[u8]) -> bool
+    ensures { result ≡ is_read t.now }
 {
-    let left = list.len() - i;
-    if left < 2 {
+    if t.len() < 2 {
         return false;
     }
-    let n = head(list, i);
+    let n = head(t);
     if n > MOST {
         return n == FAILS;
     }
-    n <= left - 2
+    n <= t.len() - 2
 }
 
-// How many bytes the read at a place brings.
-fn brings(list: &[u8], i: usize) -> usize
-    requires { i + 2 ≤ length list.now }
-    ensures { result ≡ brings_of (drop i list.now) }
+// How many bytes the read brings that it begins with.
+fn brings(t: &[u8]) -> usize
+    requires { 2 ≤ length t.now }
+    ensures { result ≡ brings_of t.now }
 {
-    let n = head(list, i);
-    if n > MOST {
-        return 0;
-    }
-    n
+    let n = head(t);
+    if n > MOST { 0 } else { n }
 }
 
-// Behind the case that begins at a place; the place itself where no whole case stands there.
+// Behind the case that begins at a place; the place itself where no whole case stands there. A read says by itself how long it is, so no iterator goes from one to the next.
 pub fn case_end(list: &[u8], from: usize) -> usize
     ensures { result ≡ case_end_of list.now from }
 {
-    if from > list.len() {
-        return from;
+    let mut t = rest(list, from);
+    while is_read(t) {
+        t = rest(t, 2 + brings(t));
     }
-    let mut i = from;
-    while is_read(list, i) {
-        i = i + 2 + brings(list, i);
-    }
-    if closed(list, i) {
-        return i + 2;
+    if closed(t) {
+        return list.len() - t.len() + 2;
     }
     from
 }
@@ -89,32 +81,25 @@ pub struct Place {
     pub left: usize,
 }
 
-// What a read came to: the place behind it, and how many bytes, or that it failed.
+// What a read came to: the place behind it, and how many bytes came, or none where it failed.
 #[derive(Clone, Copy)]
 pub struct Read {
     pub place: Place,
-    pub count: usize,
-    pub failed: bool,
+    pub came: Option<usize>,
 }
 
 // The bytes that come next: the place behind them, and how many.
 fn due(list: &[u8], p: Place) -> Place
     ensures { result ≡ due_of list.now p }
 {
-    let i = p.i;
-    if p.left > 0 {
+    let t = rest(list, p.i);
+    if p.left > 0 || !is_read(t) {
         return p;
     }
-    if i > list.len() {
-        return p;
-    }
-    if !is_read(list, i) {
-        return p;
-    }
-    let n = brings(list, i);
+    let left = brings(t);
     Place {
-        i: i + 2 + n,
-        left: n,
+        i: p.i + 2 + left,
+        left,
     }
 }
 
@@ -122,36 +107,21 @@ fn due(list: &[u8], p: Place) -> Place
 fn fails(list: &[u8], p: Place) -> bool
     ensures { result ≡ fails_of list.now p }
 {
-    let i = p.i;
-    if p.left > 0 {
+    let t = rest(list, p.i);
+    if p.left > 0 || !is_read(t) {
         return false;
     }
-    if i > list.len() {
-        return false;
-    }
-    if !is_read(list, i) {
-        return false;
-    }
-    head(list, i) == FAILS
+    head(t) == FAILS
 }
 
 // How many of the bytes before a place stand there: in a list that is one, all.
 fn held(list: &[u8], d: Place) -> usize
     ensures { result ≡ held_of list.now d }
 {
-    if d.left > d.i {
-        return 0;
-    }
-    if d.i > list.len() {
+    if d.left > d.i || d.i > list.len() {
         return 0;
     }
     d.left
-}
-
-fn least(a: usize, b: usize) -> usize
-    ensures { result ≡ min a b }
-{
-    if a < b { a } else { b }
 }
 
 // Brings the n bytes before a place, as many as the free part takes, and answers how many.
@@ -163,7 +133,7 @@ fn bring(list: &[u8], i: usize, n: usize, free: &mut [u8]) -> usize
     if n == 0 {
         return 0;
     }
-    let count = least(n, free.len());
+    let count = n.min(free.len());
     let from = i - n;
     let to = from + count;
     free[..count].copy_from_slice(&list[from..to]);
@@ -173,7 +143,7 @@ fn bring(list: &[u8], i: usize, n: usize, free: &mut [u8]) -> usize
 // The next read of a case, into the free part of a buffer: its bytes stand at the front then. Where the case has none left, one that brings nothing.
 pub fn next_read(list: &[u8], p: Place, free: &mut [u8]) -> Read
     ensures value { result ≡ read_of list.now p (length free.old) }
-    ensures free_after { free.new ≡ brought_of list.now p (length free.old) ++ drop result.count free.old }
+    ensures free_after { free.new ≡ brought_of list.now p (length free.old) ++ drop (count_of result.came) free.old }
 {
     let failed = fails(list, p);
     let d = due(list, p);
@@ -182,8 +152,7 @@ pub fn next_read(list: &[u8], p: Place, free: &mut [u8]) -> Read
     let count = bring(list, i, n, free);
     Read {
         place: Place { i, left: n - count },
-        count,
-        failed,
+        came: if failed { None } else { Some(count) },
     }
 }
 
@@ -191,12 +160,5 @@ pub fn next_read(list: &[u8], p: Place, free: &mut [u8]) -> Read
 pub fn has_more(list: &[u8], p: Place) -> bool
     ensures { result ≡ has_more_of list.now p }
 {
-    let i = p.i;
-    if p.left > 0 {
-        return true;
-    }
-    if i > list.len() {
-        return false;
-    }
-    is_read(list, i)
+    p.left > 0 || is_read(rest(list, p.i))
 }

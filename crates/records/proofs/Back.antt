@@ -2,17 +2,17 @@
 -- Assumes nothing.
 use mathlib.Core.Path.{◌≡◌, refl}
 use Rattle.codes.proofs.Back.{action-back, authenticity-back, category-back, class_back, cross-back, direction-back, etp_flag-back, event-back, flag-back, halt-back, interest-back, level-back, maker_mode-back, market-back, participant_state-back, qualifier-back, side-back, status-back, tier-back, trading_state-back, yes_no-back, subtype-back}
-use Rattle.records.specs.declared.Mpid.{Mpid}
-use Rattle.records.specs.declared.Mpid.TheVariants.{Absent, Present}
+use Prim.Native.Nat.{ℕ}
+use Rattle.std.proofs.Common.{Option, Some, None}
 use Rattle.records.specs.declared.AddOrder.{AddOrder}
 use Rattle.records.specs.declared.Body.{Body}
 use Rattle.records.specs.declared.Body.TheVariants as Body·
 use Rattle.records.specs.Values.{order_values, values, body_from}
 
-order-back : (a : AddOrder) (m : Mpid) → a.mpid ≡ m → body_from (order_values a m) ≡ Body·.AddOrder a
+order-back : (a : AddOrder) (m : Option ℕ) → a.mpid ≡ m → body_from (order_values a m) ≡ Body·.AddOrder a
 unfolding body_from
-order-back a Absent q = simp (side-back, ← q)
-order-back a (Present m) q = simp (side-back, ← q)
+order-back a None q = simp (side-back, ← q)
+order-back a (Some m) q = simp (side-back, ← q)
 
 pub body_back : (b : Body) → body_from (values b) ≡ b
 unfolding body_from

@@ -1,12 +1,11 @@
 -- The values of a body, and the body of values: the tag, then what each field gives, in the order of its row.
 -- Assumes nothing.
-use Rattle.std.specs.Prelude.{ℕ, cond, List, [], ◌∷◌, eqb, get_or}
+use Rattle.std.specs.Prelude.{ℕ, Option, Some, None, Result, cond, List, [], ◌∷◌, eqb, get_or}
 use Rattle.format.specs.Ascii.{'A', 'B', 'C', 'D', 'E', 'F', 'H', 'I', 'J', 'K', 'L', 'N', 'O', 'P', 'Q', 'R', 'S', 'U', 'V', 'W', 'X', 'Y', 'h'}
-use Rattle.format.specs.Layout.{Answer, accepted}
-use Rattle.format.specs.Meaning.{stop_m}
+use Rattle.format.specs.Layout.{Answer}
+use Rattle.format.specs.Meaning.{answer_m}
+use Rattle.format.specs.declared.Fault.{Fault}
 use Rattle.codes.specs.Names.{action_byte, authenticity_byte, category_byte, class_byte, cross_byte, direction_byte, etp_flag_byte, event_byte, flag_byte, halt_byte, interest_byte, level_byte, maker_mode_byte, market_byte, participant_state_byte, qualifier_byte, side_byte, status_byte, tier_byte, trading_state_byte, yes_no_byte, action_from, category_from, class_from, cross_from, direction_from, etp_flag_from, event_from, flag_from, halt_from, interest_from, level_from, maker_mode_from, market_from, participant_state_from, qualifier_from, side_from, status_from, tier_from, trading_state_from, subtype_byte, subtype_from}
-use Rattle.records.specs.declared.Mpid.{Mpid}
-use Rattle.records.specs.declared.Mpid.TheVariants.{Absent, Present}
 use Rattle.records.specs.declared.AddOrder.{AddOrder}
 use Rattle.records.specs.declared.ImbalanceIndicator.{ImbalanceIndicator}
 use Rattle.records.specs.declared.IpoQuotingPeriod.{IpoQuotingPeriod}
@@ -19,12 +18,10 @@ use Rattle.records.specs.declared.ReplaceOrder.{ReplaceOrder}
 use Rattle.records.specs.declared.DirectListing.{DirectListing}
 use Rattle.records.specs.declared.Body.{Body}
 use Rattle.records.specs.declared.Body.TheVariants as Body·
-use Rattle.records.specs.declared.BodyRead.{BodyRead}
-use Rattle.records.specs.declared.BodyRead.TheVariants.{Got as GotBody, No as NoBody}
 
-abbrev pub order_values : AddOrder → Mpid → List ℕ
-order_values a Absent = 'A' ∷ a.reference ∷ side_byte a.side ∷ a.shares ∷ a.stock ∷ a.price ∷ []
-order_values a (Present m) = 'F' ∷ a.reference ∷ side_byte a.side ∷ a.shares ∷ a.stock ∷ a.price ∷ m ∷ []
+abbrev pub order_values : AddOrder → Option ℕ → List ℕ
+order_values a None = 'A' ∷ a.reference ∷ side_byte a.side ∷ a.shares ∷ a.stock ∷ a.price ∷ []
+order_values a (Some m) = 'F' ∷ a.reference ∷ side_byte a.side ∷ a.shares ∷ a.stock ∷ a.price ∷ m ∷ []
 
 abbrev pub values : Body → List ℕ
 values (Body·.AddOrder a) = order_values a a.mpid
@@ -62,7 +59,7 @@ values (Body·.DirectListing x) =
     'O' ∷ x.stock ∷ yes_no_byte x.open_eligibility ∷ x.minimum_price ∷ x.maximum_price ∷ x.near_execution_price
     ∷ x.near_execution_time ∷ x.lower_collar ∷ x.upper_collar ∷ []
 
-abbrev pub order_from : List ℕ → Mpid → AddOrder
+abbrev pub order_from : List ℕ → Option ℕ → AddOrder
 order_from v m = record {
   reference = get_or v 1 0;
   side = side_from (get_or v 2 0);
@@ -168,8 +165,8 @@ direct_listing_from v = record {
 -- the body of a tag and its values; of any other list, what S would have
 unfoldable pub body_from : List ℕ → Body
 body_from v =
-    cond (eqb (get_or v 0 0) 'A') (Body·.AddOrder (order_from v Absent))
-    (cond (eqb (get_or v 0 0) 'F') (Body·.AddOrder (order_from v (Present (get_or v 6 0))))
+    cond (eqb (get_or v 0 0) 'A') (Body·.AddOrder (order_from v None))
+    (cond (eqb (get_or v 0 0) 'F') (Body·.AddOrder (order_from v (Some (get_or v 6 0))))
     (cond (eqb (get_or v 0 0) 'B') (Body·.BrokenTrade (get_or v 1 0))
     (cond (eqb (get_or v 0 0) 'C') (Body·.OrderExecutedWithPrice (get_or v 1 0) (get_or v 2 0) (get_or v 3 0) (eqb (get_or v 4 0) 'Y') (get_or v 5 0))
     (cond (eqb (get_or v 0 0) 'D') (Body·.DeleteOrder (get_or v 1 0))
@@ -193,6 +190,5 @@ body_from v =
     (Body·.SystemEvent (event_from (get_or v 1 0))))))))))))))))))))))))
 
 -- what a body's answer means
-abbrev pub body_m : BodyRead → Answer
-body_m (GotBody b n) = accepted (values b) n
-body_m (NoBody e) = stop_m e
+abbrev pub body_m : Result (Body × ℕ) Fault → Answer
+body_m = answer_m values

@@ -3,10 +3,10 @@
 #![tactic(auto)]
 
 use codes::{
-    CrossType, EtpFlag, EventCode, FinancialStatus, Flag, HaltAction, ImbalanceDirection,
-    InterestFlag, IpoReleaseQualifier, IssueClassification, IssueSubType, LevelBreached,
-    LuldRefPriceTier, MarketCategory, MarketCode, MarketMakerMode, MarketParticipantState,
-    RegShoAction, Side, TradingState,
+    CrossType, EtpFlag, EventCode, FinancialStatus, HaltAction, ImbalanceDirection, InterestFlag,
+    IpoReleaseQualifier, IssueClassification, IssueSubType, LevelBreached, LuldRefPriceTier,
+    MarketCategory, MarketCode, MarketMakerMode, MarketParticipantState, RegShoAction, Side,
+    TradingState,
 };
 use format::Fault;
 
@@ -22,13 +22,6 @@ pub type Price4 = u32;
 // A price with eight decimal places.
 pub type Price8 = u64;
 
-// The attribution of an add order: F has one, A has none.
-#[derive(Clone, Copy)]
-pub enum Mpid {
-    Absent,
-    Present(Text4),
-}
-
 // A and F: a new order.
 #[derive(Clone, Copy)]
 pub struct AddOrder {
@@ -37,7 +30,8 @@ pub struct AddOrder {
     pub shares: u32,
     pub stock: Text8,
     pub price: Price4,
-    pub mpid: Mpid,
+    // the attribution: F has one, A has none
+    pub mpid: Option<Text4>,
 }
 
 // I: the net order imbalance before a cross.
@@ -115,8 +109,9 @@ pub struct StockDirectory {
     pub issue_subtype: IssueSubType,
     // whether it is in production; else a test
     pub authenticity: bool,
-    pub short_sale_threshold: Flag,
-    pub ipo_flag: Flag,
+    // yes, no or absent, as the next
+    pub short_sale_threshold: Option<bool>,
+    pub ipo_flag: Option<bool>,
     pub luld_ref_price_tier: LuldRefPriceTier,
     pub etp_flag: EtpFlag,
     pub etp_leverage_factor: u32,
@@ -228,8 +223,4 @@ pub struct Message {
 }
 
 // What reading a body answers: the body and the place behind it, or why there is none.
-#[derive(Clone, Copy)]
-pub enum BodyRead {
-    Got(Body, usize),
-    No(Fault),
-}
+pub type BodyRead = Result<(Body, usize), Fault>;

@@ -12,19 +12,20 @@ use Rattle.stream.specs.Room.{room_of}
 use Rattle.stream_laws.proofs.Calls.{next-message, room-ready}
 use Rattle.flat.specs.declared.Flat.{Flat}
 use Rattle.flat.specs.Flatten.{step_flat}
-use Rattle.flat.proofs.Answers.{is-message, is-ready, flat-state}
+use Rattle.flat.specs.declared.Said.TheVariants as Said·
+use Rattle.flat.proofs.Answers.{is-message, is-ready}
 
-pub free-inside : (s : Stream) (len : ℕ) (r : Flat) → r ≡ step_flat (room_of s len) → r.kind ≡ 3 → r.state.end ≤ len
+pub free-inside : (s : Stream) (len : ℕ) (r : Flat) → r ≡ step_flat (room_of s len) → r.said ≡ Said·.Ready → r.state.end ≤ len
 free-inside s len r e k =
     let x = room_of s len in
-    let a : x.answer ≡ Ready = is-ready x.state x.answer (ap (λ (f : Flat). f.kind) (sym e) ∙ k) in
+    let a : x.answer ≡ Ready = is-ready x.answer (ap (λ (f : Flat). f.said) (sym e) ∙ k) in
     let h = room-ready s len a in
-    let g : r.state ≡ x.state = ap (λ (f : Flat). f.state) e ∙ flat-state x.state x.answer in
+    let g : r.state ≡ x.state = ap (λ (f : Flat). f.state) e in
     rw g (omega (arith, h.whole, h.free))
 
-pub counted : (rd : Reading) (s : Stream) (b : List ℕ) (r : Flat) → r ≡ step_flat (next_of rd s b) → 65 ≤ r.kind → r.state.messages ≡ s.messages + 1
-counted rd s b r e k =
+pub counted : (rd : Reading) (s : Stream) (b : List ℕ) (r : Flat) (v : List ℕ) → r ≡ step_flat (next_of rd s b) → r.said ≡ Said·.Message v → r.state.messages ≡ s.messages + 1
+counted rd s b r v e k =
     let x = next_of rd s b in
-    let m = is-message x.state x.answer (rw (ap (λ (f : Flat). f.kind) e) at k) in
-    let g : r.state ≡ x.state = ap (λ (f : Flat). f.state) e ∙ flat-state x.state x.answer in
+    let m = is-message x.answer v (ap (λ (f : Flat). f.said) (sym e) ∙ k) in
+    let g : r.state ≡ x.state = ap (λ (f : Flat). f.state) e in
     rw g (next-message rd s b m.0 m.1).messages

@@ -13,633 +13,25 @@
 // A line: fields with a tab between them, each `name=value`. Numbers are in decimal, prices as they are on the wire.
 #![tactic(auto)]
 
-ghost use Rattle.std.specs.Prelude.{◌≡◌, ◌+◌, ◌-◌, ◌*◌, ◌≤◌, ◌<◌, length};
+ghost use Rattle.std.specs.Prelude.{◌≡◌, ◌+◌, ◌≤◌, length, IfOk};
 
-use flat::Flat;
-use format::Reading;
-use reads::{Place, Read};
+use flat::{Flat, Said};
+use format::{Edition, Reading};
+use reads::Place;
+use standard::Brought;
 use std::io::{Stderr, Stdin, Stdout};
 use std::rt::{Env, Files};
 use stream::Stream;
 use words::Words;
 
-// The header of a message's line.
-fn header(v: &[u64], out: &mut [u8], at: usize) -> usize
-    requires { at ≤ length out.old }
-    ensures { result ≤ length out.old }
-{
-    templates::put(
-        b"tag={1}\tstock_locate={n}\ttracking_number={n}\ttimestamp={n}\tbody={.",
-        0,
-        v,
-        out,
-        at,
-    )
-}
-
-// The one kind that is no capital letter: h.
-const HALT: u64 = 104;
-
-// The template of a kind: that of its letter, behind the first two, and h's behind Y's. There is always room, since the table and its values take less
-// than a line is given below.
-fn by_kind(kind: u64, v: &[u64], table: &[u8], starts: &[usize], out: &mut [u8], at: usize) -> usize
-    requires { at ≤ length out.old }
-    ensures { result ≤ length out.old }
-{
-    let mut slot = kind;
-    if kind >= flat::FIRST {
-        slot = kind - flat::FIRST + 2;
-    }
-    if kind == HALT {
-        slot = 27;
-    }
-    let k = slot as usize;
-    if k >= starts.len() {
-        return at;
-    }
-    templates::put(table, starts[k], v, out, at)
-}
-
-// The line of an answer that has one: a message's, nothing more and refused.
-fn line(f: Flat, table: &[u8], starts: &[usize], out: &mut [u8], at: usize) -> usize
-    requires { at ≤ length out.old }
-    ensures { result ≤ length out.old }
-{
-    let v = f.v;
-    if f.kind < flat::FIRST {
-        return by_kind(f.kind, &v[..2], table, starts, out, at);
-    }
-    let next = header(&v[..4], out, at);
-    by_kind(f.kind, &v[5..], table, starts, out, next)
-}
-
-// Hands what stands before `at` to the write calls, and says whether they took it.
-fn flushed(output: Stdout, out: &[u8], at: usize) -> bool
-    requires { at ≤ length out.now }
-{
-    standard::print(output, &out[..at])
-}
-
-// Where the next line goes, and whether no write failed.
+// A write that was not taken, which ends the run.
 #[derive(Clone, Copy)]
-struct Room {
-    at: usize,
-    written: bool,
-}
-
-// Room for a line: what is there is written, if there is too little.
-fn line_room(output: Stdout, out: &[u8], at: usize) -> Room
-    requires { (6144 ≤ length out.now) × (at ≤ length out.now) }
-    ensures { result.at + 6144 ≤ length out.now }
-{
-    if out.len() - at < 6144 {
-        return Room {
-            at: 0,
-            written: flushed(output, out, at),
-        };
-    }
-    Room { at, written: true }
-}
-
-// An answer that is no message, and how far the output buffer is filled. A write that fails ends the run.
-#[derive(Clone, Copy)]
-struct Said {
-    f: Flat,
-    at: usize,
-    written: bool,
-}
-
-// Takes the window's messages and puts their lines, to the first answer that is none.
-fn drain(
-    output: Stdout,
-    s0: Stream,
-    b: &[u8],
-    table: &[u8],
-    starts: &[usize],
-    out: &mut [u8],
-    at0: usize,
-    reading: Reading,
-) -> Said
-    requires { (6144 ≤ length out.old) × (at0 ≤ length out.old) }
-    ensures { result.at ≤ length out.old }
-{
-    let mut s = s0;
-    let mut at = at0;
-    loop {
-        let f = flat::next(s, b, reading);
-        if f.kind < flat::FIRST {
-            return Said {
-                f,
-                at,
-                written: true,
-            };
-        }
-        let r = line_room(output, out, at);
-        if !r.written {
-            return Said {
-                f,
-                at: 0,
-                written: false,
-            };
-        }
-        at = line(f, table, starts, out, r.at);
-        let state = f.state;
-        s = state;
-    }
-}
-
-// A read: of standard input, where the stream is read raw, or of the list.
-fn fetched(input: Stdin, raw: bool, list: &[u8], p: Place, free: &mut [u8]) -> Read {
-    if raw {
-        let b = standard::read(input, standard::unread(), free);
-        return Read {
-            place: p,
-            count: standard::bytes(b),
-            failed: standard::failed(b),
-        };
-    }
-    reads::next_read(list, p, free)
-}
-
-fn told(s: Stream, count: usize, failed: bool) -> Flat {
-    if failed {
-        return flat::told_failed(s);
-    }
-    flat::told(s, count)
-}
-
-// What was said behind a turn, and whether there was a read.
-#[derive(Clone, Copy)]
-struct Fed {
-    f: Flat,
-    place: Place,
-    read: bool,
-}
-
-// Where the stream wants bytes there is a read: room is made, the free part of the buffer is handed on for it, and the state is told what came of it.
-// Any other answer stays.
-fn feed(input: Stdin, said: Flat, buf: &mut [u8], raw: bool, list: &[u8], p: Place) -> Fed {
-    if said.kind != flat::WANTS {
-        return Fed {
-            f: said,
-            place: p,
-            read: false,
-        };
-    }
-    let s = said.state;
-    let room = flat::make_room(s, buf);
-    if room.kind != flat::READY {
-        return Fed {
-            f: room,
-            place: p,
-            read: false,
-        };
-    }
-    let state = room.state;
-    let end = state.end;
-    let r = fetched(input, raw, list, p, &mut buf[end..]);
-    let place = r.place;
-    let f = told(state, r.count, r.failed);
-    Fed {
-        f,
-        place,
-        read: true,
-    }
-}
-
-// A run: its last answer, the place in the list, whether it goes on, how many refusals and nothing-mores there were since a read, and how far the
-// output buffer is filled.
-#[derive(Clone, Copy)]
-struct Run {
-    f: Flat,
-    place: Place,
-    more: bool,
-    silent: u8,
-    at: usize,
-    written: bool,
-}
-
-// Whether a case goes on behind a refusal or nothing more.
-fn goes_on(list: &[u8], p: Place, silent: u8, read: bool) -> bool {
-    if silent > 0 {
-        if !read {
-            return false;
-        }
-    }
-    reads::has_more(list, p)
-}
-
-// Puts what was said, in a case, and decides how the run goes on.
-fn answered(
-    output: Stdout,
-    d: Fed,
-    raw: bool,
-    list: &[u8],
-    silent: u8,
-    table: &[u8],
-    starts: &[usize],
-    out: &mut [u8],
-    at: usize,
-) -> Run
-    requires { (6144 ≤ length out.old) × (at ≤ length out.old) }
-    ensures { result.at ≤ length out.old }
-{
-    let f = d.f;
-    let place = d.place;
-    let ready = f.kind == flat::READY;
-    if raw || ready {
-        return Run {
-            f,
-            place,
-            more: ready,
-            silent: 0,
-            at,
-            written: true,
-        };
-    }
-    let r = line_room(output, out, at);
-    let then = line(f, table, starts, out, r.at);
-    Run {
-        f,
-        place,
-        more: r.written && goes_on(list, place, silent, d.read),
-        silent: 1,
-        at: then,
-        written: r.written,
-    }
-}
-
-// Tries next, to an answer that is no message, and reads where it wants bytes.
-fn turn(
-    input: Stdin,
-    output: Stdout,
-    c: Run,
-    buf: &mut [u8],
-    raw: bool,
-    list: &[u8],
-    table: &[u8],
-    starts: &[usize],
-    out: &mut [u8],
-    reading: Reading,
-) -> Run
-    requires { (6144 ≤ length out.old) × (c.at ≤ length out.old) }
-    ensures { result.at ≤ length out.old }
-{
-    let last = c.f;
-    let s = last.state;
-    let place = c.place;
-    let d = drain(output, s, buf, table, starts, out, c.at, reading);
-    let said = d.f;
-    if !d.written {
-        return Run {
-            f: said,
-            place,
-            more: false,
-            silent: 0,
-            at: 0,
-            written: false,
-        };
-    }
-    let fed = feed(input, said, buf, raw, list, place);
-    answered(output, fed, raw, list, c.silent, table, starts, out, d.at)
-}
-
-// A run from a fresh stream on: raw, or the case at a place of the list. No input has as many turns as are allowed.
-fn turns(
-    input: Stdin,
-    output: Stdout,
-    raw: bool,
-    list: &[u8],
-    i: usize,
-    table: &[u8],
-    starts: &[usize],
-    out: &mut [u8],
-    at: usize,
-    reading: Reading,
-) -> Run
-    requires { (6144 ≤ length out.old) × (at ≤ length out.old) }
-    ensures { result.at ≤ length out.old }
-{
-    let mut buf = [0u8; 8192];
-    let s = stream::fresh();
-    let mut c = Run {
-        f: Flat {
-            state: s,
-            kind: flat::NOTHING,
-            v: [0u64; 19],
-        },
-        place: Place { i, left: 0 },
-        more: true,
-        silent: 0,
-        at,
-        written: true,
-    };
-    let mut left = u64::MAX;
-    while left > 0 {
-        let then = turn(
-            input, output, c, &mut buf, raw, list, table, starts, out, reading,
-        );
-        c = then;
-        if !c.more {
-            return c;
-        }
-        left -= 1;
-    }
-    c
-}
-
-// What `show` prints last; nothing more has number and place 0.
-fn closing(f: Flat, out: &mut [u8], at: usize) -> usize
-    requires { at ≤ length out.old }
-    ensures { result ≤ length out.old }
-{
-    let s = f.state;
-    let v = f.v;
-    templates::put(
-        b"messages {n}\nconsumed {n}\nstopped {n} {n}\n{.",
-        0,
-        &[s.messages, stream::consumed(s), v[0], v[1]],
-        out,
-        at,
-    )
-}
-
-// The last line of a case.
-fn end_line(s: Stream, out: &mut [u8], at: usize) -> usize
-    requires { at ≤ length out.old }
-    ensures { result ≤ length out.old }
-{
-    templates::put(
-        b"end {n} {n}\n{.",
-        0,
-        &[s.messages, stream::consumed(s)],
-        out,
-        at,
-    )
-}
-
-// The last lines, behind what is in the output buffer; whether all was written.
-fn last_lines(output: Stdout, f: Flat, written: bool, out: &mut [u8], at: usize) -> bool
-    requires { (6144 ≤ length out.old) × (at ≤ length out.old) }
-{
-    if !written {
-        return false;
-    }
-    let r = line_room(output, out, at);
-    if !r.written {
-        return false;
-    }
-    let n = closing(f, out, r.at);
-    flushed(output, out, n)
-}
-
-// The number that a run stopped with: a refusal's, and 0 at a clean end.
-fn number_of(f: Flat) -> u8 {
-    let v = f.v;
-    let n = v[0];
-    if n > 255 {
-        return 255;
-    }
-    n as u8
-}
-
-// Shows standard input, and says how it went.
-fn show_all(
-    rt: &impl Files,
-    input: Stdin,
-    output: Stdout,
-    error: Stderr,
-    words: Words,
-    table: &[u8],
-    starts: &[usize],
-    out: &mut [u8],
-)
-    requires { 6144 ≤ length out.old }
-{
-    let reading = words::reading(words);
-    let none = [0u8; 1];
-    let c = turns(
-        input, output, true, &none, 0, table, starts, out, 0, reading,
-    );
-    let f = c.f;
-    let state = f.state;
-    let taken = last_lines(output, f, c.written, out, c.at);
-    words::finish(
-        rt,
-        error,
-        words,
-        b"show",
-        number_of(f),
-        stream::consumed(state),
-        taken,
-    );
-}
-
-// Cases that were played: the place behind them, and what is in the output buffer.
-#[derive(Clone, Copy)]
-struct Played {
-    i: usize,
-    at: usize,
-    written: bool,
-}
-
-// The case at a place. The place behind it is the answer's.
-fn one_case(
-    input: Stdin,
-    output: Stdout,
-    list: &[u8],
-    i: usize,
-    end: usize,
-    table: &[u8],
-    starts: &[usize],
-    out: &mut [u8],
-    at: usize,
-    reading: Reading,
-) -> Played
-    requires { (6144 ≤ length out.old) × (at ≤ length out.old) }
-    ensures { (result.i ≡ end) × (result.at ≤ length out.old) }
-{
-    let c = turns(
-        input, output, false, list, i, table, starts, out, at, reading,
-    );
-    let f = c.f;
-    let s = f.state;
-    let r = line_room(output, out, c.at);
-    let n = end_line(s, out, r.at);
-    Played {
-        i: end,
-        at: n,
-        written: c.written && r.written,
-    }
-}
-
-// The whole cases of the list.
-fn whole_cases(
-    input: Stdin,
-    output: Stdout,
-    list: &[u8],
-    table: &[u8],
-    starts: &[usize],
-    out: &mut [u8],
-    at: usize,
-    reading: Reading,
-) -> Played
-    requires { (6144 ≤ length out.old) × (at ≤ length out.old) }
-    ensures { (result.i ≤ length list.now) × (result.at ≤ length out.old) }
-{
-    let mut c = Played {
-        i: 0,
-        at,
-        written: true,
-    };
-    loop {
-        let i = c.i;
-        let end = reads::case_end(list, i);
-        if end <= i {
-            return c;
-        }
-        let then = one_case(
-            input, output, list, i, end, table, starts, out, c.at, reading,
-        );
-        c = then;
-        if !c.written {
-            return c;
-        }
-    }
-}
-
-// Moves n bytes from a place to the front.
-fn to_front(list: &mut [u8], from: usize, n: usize)
-    requires { from + n ≤ length list.old }
-{
-    let mut k = 0;
-    while k < n {
-        list[k] = list[from + k];
-        k += 1;
-    }
-}
-
-// So many bytes of the list are held: from the first case that is not played on.
-#[derive(Clone, Copy)]
-struct Held {
-    n: usize,
-    at: usize,
-    more: bool,
-    written: bool,
-}
-
-// Reads behind the n bytes that are held, and answers how many there are then.
-fn more_held(input: Stdin, held: &mut [u8], n: usize) -> usize
-    requires { n ≤ length held.old }
-    ensures { result ≤ length held.old }
-{
-    let b = standard::read(input, standard::unread(), &mut held[n..]);
-    n + standard::bytes(b)
-}
-
-// Reads on in the list and plays its whole cases. Where no bytes come, or there is no room for any, it has ended.
-fn some_cases(
-    input: Stdin,
-    output: Stdout,
-    held: &mut [u8],
-    n: usize,
-    table: &[u8],
-    starts: &[usize],
-    out: &mut [u8],
-    at: usize,
-    reading: Reading,
-) -> Held
-    requires { (n ≤ length held.old) × (6144 ≤ length out.old) × (at ≤ length out.old) }
-    ensures { (result.n ≤ length held.old) × (result.at ≤ length out.old) }
-{
-    let all = more_held(input, held, n);
-    if all == n {
-        return Held {
-            n,
-            at,
-            more: false,
-            written: true,
-        };
-    }
-    let c = whole_cases(input, output, &held[..all], table, starts, out, at, reading);
-    let from = c.i;
-    let rest = all - from;
-    to_front(held, from, rest);
-    Held {
-        n: rest,
-        at: c.at,
-        more: c.written,
-        written: c.written,
-    }
-}
-
-// Room for the longest case.
-fn list_buffer() -> [u8; 262144]
-    ensures { 262144 ≡ length result }
-{
-    [0; 262144]
-}
-
-// Plays the cases of standard input. No input has as many reads as are allowed.
-fn all_cases(
-    input: Stdin,
-    output: Stdout,
-    table: &[u8],
-    starts: &[usize],
-    out: &mut [u8],
-    reading: Reading,
-) -> Held
-    requires { 6144 ≤ length out.old }
-    ensures { result.at ≤ length out.old }
-{
-    let mut held = list_buffer();
-    let mut h = Held {
-        n: 0,
-        at: 0,
-        more: true,
-        written: true,
-    };
-    let mut left = u64::MAX;
-    while left > 0 {
-        let then = some_cases(
-            input, output, &mut held, h.n, table, starts, out, h.at, reading,
-        );
-        h = then;
-        if !h.more {
-            return h;
-        }
-        left -= 1;
-    }
-    h
-}
-
-// The same, to its end; says whether no write failed.
-fn case_all(
-    input: Stdin,
-    output: Stdout,
-    error: Stderr,
-    words: Words,
-    table: &[u8],
-    starts: &[usize],
-    out: &mut [u8],
-) -> bool
-    requires { 6144 ≤ length out.old }
-{
-    let reading = words::reading(words);
-    let h = all_cases(input, output, table, starts, out, reading);
-    if !h.written {
-        return false;
-    }
-    if h.n > 0 {
-        let _ = error.println("cases: bad case list");
-    }
-    flushed(output, out, h.at)
-}
+struct NotTaken;
 
 // The templates of the lines, one behind the other: nothing more, refused, and for each letter from A to Y what comes behind `body=` in the line of a message
 // whose body has this tag; none for the letters that are no tag. Last is h's.
-fn go(rt: &impl Files, input: Stdin, output: Stdout, error: Stderr, raw: bool, words: Words) {
-    let table: &[u8] = b"\
+fn lines() -> &'static [u8] {
+    b"\
         nothing\n{.\
         refused {n} {n}\n{.\
         AddOrder\treference={n}\tside={B=Buy,S=Sell,}\tshares={n}\tstock={8}\tprice={n}\tmpid=None\n{.\
@@ -692,41 +84,373 @@ fn go(rt: &impl Files, input: Stdin, output: Stdout, error: Stderr, raw: bool, w
         Breach\tlevel={1=L1,2=L2,3=L3,}\n{.\
         OrderCancelled\treference={n}\tcancelled={n}\n{.\
         RegShoRestriction\tstock={8}\taction={0=None,1=Intraday,2=Extant,}\n{.\
-        OperationalHalt\tstock={8}\tmarket_code={Q=Nasdaq,B=Bx,X=Psx,}\taction={H=Halted,T=Resumed,}\n{.";
-    let starts = templates::starts_of(table);
-    let mut out = [0u8; 65536];
-    if raw {
-        show_all(rt, input, output, error, words, table, &starts, &mut out);
-        return;
+        OperationalHalt\tstock={8}\tmarket_code={Q=Nasdaq,B=Bx,X=Psx,}\taction={H=Halted,T=Resumed,}\n{."
+}
+
+// ---- the lines
+
+// Lines on their way to standard output: what stands before `at` is not written yet. There is always room for a line, since the templates and their
+// values take less than a line is given below.
+#[derive(Drop)]
+struct Page {
+    output: Stdout,
+    table: &'static [u8],
+    starts: [usize; 32],
+    bytes: [u8; 65536],
+    at: usize,
+    ghost inside: { at ≤ 65536 },
+}
+
+impl Page {
+    fn new(output: Stdout) -> Page {
+        let table = lines();
+        Page {
+            output,
+            table,
+            starts: templates::starts_of(table),
+            bytes: [0; 65536],
+            at: 0,
+        }
     }
-    if !case_all(input, output, error, words, table, &starts, &mut out) {
-        let _ = error.println("cases: a write failed");
+
+    // Hands what stands there to the write calls.
+    fn flush(&mut self) -> Result<(), NotTaken>
+        ensures { self.new.at ≡ 0 }
+    {
+        let taken = standard::print(self.output, &self.bytes[..self.at]);
+        self.at = 0;
+        if taken { Ok(()) } else { Err(NotTaken) }
     }
+
+    // Room for a line: what is there is written, if there is too little.
+    fn make_room(&mut self) -> Result<(), NotTaken>
+        ensures { IfOk result (λ _. self.new.at + 6144 ≤ 65536) }
+    {
+        if self.bytes.len() - self.at < 6144 {
+            self.flush()?;
+        }
+        Ok(())
+    }
+
+    // Puts the template that begins at a place of a table.
+    fn put(&mut self, table: &[u8], start: usize, v: &[u64]) {
+        self.at = templates::put(table, start, v, &mut self.bytes, self.at);
+    }
+
+    // Puts the table's template of this number, counted from 0.
+    fn put_template(&mut self, k: usize, v: &[u64]) {
+        if let Some(&start) = self.starts.get(k) {
+            self.put(self.table, start, v);
+        }
+    }
+
+    // The line of a message: its header, and the template of its body's letter. Those stand from A on behind the first two, and h's behind Y's.
+    fn message(&mut self, v: &[u64; 19]) {
+        self.put(
+            b"tag={1}\tstock_locate={n}\ttracking_number={n}\ttimestamp={n}\tbody={.",
+            0,
+            &v[..4],
+        );
+        let k = match v[4] {
+            104 => 27,
+            letter => letter.saturating_sub(65).saturating_add(2),
+        };
+        self.put_template(k as usize, &v[5..]);
+    }
+
+    // The line of an answer that has one: a message's, nothing more and refused.
+    fn line(&mut self, said: &Said) -> Result<(), NotTaken> {
+        self.make_room()?;
+        match said {
+            Said::Message(v) => self.message(v),
+            Said::Nothing => self.put_template(0, &[]),
+            Said::Refused(number, place) => self.put_template(
+                1,
+                &[u64::from(*number), *place as u64],
+            ),
+            Said::Wants | Said::Ready => {}
+        }
+        Ok(())
+    }
+
+    // What `show` prints last; nothing more has number and place 0.
+    fn closing(&mut self, f: &Flat) -> Result<(), NotTaken> {
+        self.make_room()?;
+        let (number, place) = match f.said {
+            Said::Refused(number, place) => (u64::from(number), place as u64),
+            _ => (0, 0),
+        };
+        self.put(
+            b"messages {n}\nconsumed {n}\nstopped {n} {n}\n{.",
+            0,
+            &[f.state.messages, stream::consumed(f.state), number, place],
+        );
+        self.flush()
+    }
+
+    // The last line of a case.
+    fn end_line(&mut self, s: Stream) -> Result<(), NotTaken> {
+        self.make_room()?;
+        self.put(b"end {n} {n}\n{.", 0, &[s.messages, stream::consumed(s)]);
+        Ok(())
+    }
+}
+
+// ---- the reads
+
+// What a run reads.
+trait Source {
+    // One read into the free part of a buffer: how many bytes it brought, or none where it failed.
+    fn bring(&mut self, free: &mut [u8]) -> Option<usize>;
+}
+
+// Standard input, read as a stream.
+#[derive(Drop)]
+struct Input(Stdin);
+
+impl Source for Input {
+    fn bring(&mut self, free: &mut [u8]) -> Option<usize> {
+        standard::read(self.0, Brought::unread(), free).last().ok()
+    }
+}
+
+// The reads of a case of the list, from the place on.
+#[derive(Drop)]
+struct Case<'a> {
+    list: &'a [u8],
+    place: Place,
+}
+
+impl Source for Case<'_> {
+    fn bring(&mut self, free: &mut [u8]) -> Option<usize> {
+        let r = reads::next_read(self.list, self.place, free);
+        self.place = r.place;
+        r.came
+    }
+}
+
+// ---- the runs
+
+// A run of the stream: its reading, its buffer and its last answer.
+#[derive(Drop)]
+struct Run {
+    reading: Reading,
+    buf: [u8; 8192],
+    last: Flat,
+}
+
+impl Run {
+    fn fresh(reading: Reading) -> Run {
+        Run {
+            reading,
+            buf: [0; 8192],
+            last: Flat {
+                state: stream::fresh(),
+                said: Said::Nothing,
+            },
+        }
+    }
+
+    // Takes the window's messages and puts their lines, to the first answer that is none.
+    fn drain(&mut self, page: &mut Page) -> Result<(), NotTaken> {
+        loop {
+            self.last = flat::next(self.last.state, &self.buf, self.reading);
+            let Said::Message(_) = self.last.said else {
+                return Ok(());
+            };
+            page.line(&self.last.said)?;
+        }
+    }
+
+    // Where the stream wants bytes there is a read: room is made, the free part of the buffer is handed on for it, and the state is told what came of it.
+    // Any other answer stays. Says whether there was a read.
+    fn feed(&mut self, source: &mut impl Source) -> bool {
+        let Said::Wants = self.last.said else {
+            return false;
+        };
+        self.last = flat::make_room(self.last.state, &mut self.buf);
+        let Said::Ready = self.last.said else {
+            return false;
+        };
+        let state = self.last.state;
+        self.last = match source.bring(&mut self.buf[state.end..]) {
+            Some(n) => flat::told(state, n),
+            None => flat::told_failed(state),
+        };
+        true
+    }
+
+    // Tries next, to an answer that is no message, and reads where it wants bytes. Says whether there was a read.
+    fn turn(&mut self, source: &mut impl Source, page: &mut Page) -> Result<bool, NotTaken> {
+        self.drain(page)?;
+        Ok(self.feed(source))
+    }
+
+    // Standard input, to its first refusal or its end. No input has as many turns as are allowed.
+    fn show(&mut self, input: Stdin, page: &mut Page) -> Result<(), NotTaken> {
+        let mut source = Input(input);
+        for _ in 0..u64::MAX {
+            self.turn(&mut source, page)?;
+            let Said::Ready = self.last.said else {
+                break;
+            };
+        }
+        Ok(())
+    }
+
+    // A case. Behind a refusal or nothing more it goes on while it has reads that are not brought in, but not behind a second one without a read in between.
+    fn play(&mut self, mut case: Case, page: &mut Page) -> Result<(), NotTaken> {
+        let mut silent = false;
+        for _ in 0..u64::MAX {
+            let read = self.turn(&mut case, page)?;
+            if let Said::Ready = self.last.said {
+                silent = false;
+                continue;
+            }
+            page.line(&self.last.said)?;
+            if (silent && !read) || !reads::has_more(case.list, case.place) {
+                break;
+            }
+            silent = true;
+        }
+        Ok(())
+    }
+
+    // The number that it stopped with: a refusal's, and 0 at a clean end; where a write failed, the tag of the message whose line was to be put.
+    fn number(&self) -> u8 {
+        match self.last.said {
+            Said::Refused(number, _) => number,
+            Said::Message(v) => u8::try_from(v[0]).unwrap_or(u8::MAX),
+            _ => 0,
+        }
+    }
+}
+
+// ---- the program `show`
+
+// Standard input's lines, and the closing ones.
+fn show_input(run: &mut Run, input: Stdin, page: &mut Page) -> Result<(), NotTaken> {
+    run.show(input, page)?;
+    page.closing(&run.last)
+}
+
+// Shows standard input, and says how it went.
+fn show_all(rt: &impl Files, input: Stdin, output: Stdout, error: Stderr, words: Words) {
+    let mut page = Page::new(output);
+    let mut run = Run::fresh(Reading::from(words));
+    let taken = show_input(&mut run, input, &mut page).is_ok();
+    words::finish(
+        rt,
+        error,
+        words,
+        b"show",
+        words::stop_by(run.number()),
+        stream::consumed(run.last.state),
+        taken,
+    );
 }
 
 // The program `show`: what the words ask for, and nothing where they are none.
 pub fn show(rt: &(impl Env + Files), input: Stdin, output: Stdout, error: Stderr) {
     let w = words::asked(rt, false);
     if w.known {
-        go(rt, input, output, error, true, w);
-        return;
+        show_all(rt, input, output, error, w);
+    } else {
+        words::misuse(
+            rt,
+            error,
+            w,
+            b"show: its words are later, strict and status\n",
+        );
     }
-    words::misuse(
-        rt,
-        error,
-        w,
-        b"show: its words are later, strict and status\n",
-    );
+}
+
+// ---- the program `cases`
+
+// The case at a place of the list, from a fresh stream on.
+fn one_case(list: &[u8], i: usize, reading: Reading, page: &mut Page) -> Result<(), NotTaken> {
+    let place = Place { i, left: 0 };
+    let mut run = Run::fresh(reading);
+    run.play(Case { list, place }, page)?;
+    page.end_line(run.last.state)
+}
+
+// The whole cases that a list begins with; the place behind them.
+fn whole_cases(list: &[u8], reading: Reading, page: &mut Page) -> Result<usize, NotTaken>
+    ensures { IfOk result (λ i. i ≤ length list.now) }
+{
+    let mut i = 0;
+    loop {
+        let end = reads::case_end(list, i);
+        if end <= i {
+            return Ok(i);
+        }
+        one_case(list, i, reading, page)?;
+        i = end;
+    }
+}
+
+// The bytes of the list that are held, `n` of them: from the first case that is not played on. There is room for the longest case.
+#[derive(Drop)]
+struct Held {
+    bytes: [u8; 262144],
+    n: usize,
+    ghost inside: { n ≤ 262144 },
+}
+
+impl Held {
+    fn none() -> Held {
+        Held {
+            bytes: [0; 262144],
+            n: 0,
+        }
+    }
+
+    // Reads on in the list. Where no bytes come, or there is no room for any, it has ended.
+    fn more(&mut self, input: Stdin) -> bool {
+        let b = standard::read(input, Brought::unread(), &mut self.bytes[self.n..]);
+        let came = b.count();
+        self.n += came;
+        came > 0
+    }
+
+    // Plays the whole cases that are held.
+    fn play(&mut self, reading: Reading, page: &mut Page) -> Result<(), NotTaken> {
+        let from = whole_cases(&self.bytes[..self.n], reading, page)?;
+        self.bytes.copy_within(from..self.n, 0);
+        self.n -= from;
+        Ok(())
+    }
+}
+
+// Plays the cases of standard input, to its end. No input has as many reads as are allowed.
+fn case_all(
+    input: Stdin,
+    error: Stderr,
+    reading: Reading,
+    page: &mut Page,
+) -> Result<(), NotTaken> {
+    let mut held = Held::none();
+    for _ in 0..u64::MAX {
+        if !held.more(input) {
+            break;
+        }
+        held.play(reading, page)?;
+    }
+    if held.n > 0 {
+        let _ = error.println("cases: bad case list");
+    }
+    page.flush()
 }
 
 // The program `cases`, which has no words: it reads by the old edition and not strictly, as the Rust does.
-pub fn cases(rt: &impl Files, input: Stdin, output: Stdout, error: Stderr) {
-    let none = Words {
-        quiet: false,
-        later: false,
+pub fn cases(input: Stdin, output: Stdout, error: Stderr) {
+    let reading = Reading {
+        edition: Edition::Old,
         strict: false,
-        status: false,
-        known: true,
     };
-    go(rt, input, output, error, false, none);
+    let mut page = Page::new(output);
+    if case_all(input, error, reading, &mut page).is_err() {
+        let _ = error.println("cases: a write failed");
+    }
 }

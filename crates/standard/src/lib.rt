@@ -3,18 +3,21 @@
 // and no trait's: who has such a value has read standard input itself, or written to standard output itself.
 #![tactic(auto)]
 
-ghost use Rattle.std.specs.Prelude.{◌≡◌, true, ◌+◌, ◌≤◌, min, length};
-ghost use Rattle.standard.specs.Reads.{Reads};
+ghost use Rattle.std.specs.Prelude.{◌≡◌, true, ◌≤◌, length};
+ghost use Rattle.standard.specs.Reads.{Reads, bytes_of, has_failed};
 
 use std::io::{Read, Stdin, Stdout};
 
-// The reads so far. Of the last one: how many bytes it had room for (0: there was none yet), whether it failed, and how many bytes it put at the start of
-// what it was handed. And the bytes that all of them brought, 2^64 - 1 where they are more.
+// A read that failed. The system says no more of it here.
+#[derive(Clone, Copy, PartialEq, Eq)]
+pub struct ReadFailed;
+
+// The reads so far. Of the last one: how many bytes it had room for (0: there was none yet), and what came of it: how many it put at the start of what it
+// was handed, or that it failed. And the bytes that all of them brought, 2^64 - 1 where they are more.
 #[derive(Clone, Copy)]
 pub struct Brought {
     room: usize,
-    failed: bool,
-    bytes: usize,
+    came: Result<usize, ReadFailed>,
     total: u64,
 }
 
@@ -25,26 +28,57 @@ pub struct Written {
     taken: bool,
 }
 
-// No read was made yet.
-pub fn unread() -> Brought
-    ensures { (result.room ≡ 0) × (result.total ≡ 0) }
-{
-    Brought {
-        room: 0,
-        failed: false,
-        bytes: 0,
-        total: 0,
+impl Brought {
+    // No read was made yet.
+    pub fn unread() -> Self
+        ensures { (result.room ≡ 0) × (result.total ≡ 0) }
+    {
+        Brought {
+            room: 0,
+            came: Ok(0),
+            total: 0,
+        }
+    }
+
+    // How many bytes the last read brought, or that it failed.
+    pub fn last(self) -> Result<usize, ReadFailed>
+        ensures { result ≡ self.came }
+    {
+        self.came
+    }
+
+    // Whether the last read failed.
+    pub fn failed(self) -> bool
+        ensures { result ≡ has_failed self }
+    {
+        self.last().is_err()
+    }
+
+    // How many bytes the last read brought: none, where it failed.
+    pub fn count(self) -> usize
+        ensures { result ≡ bytes_of self }
+    {
+        self.last().unwrap_or(0)
     }
 }
 
-fn sum(a: u64, n: usize) -> u64
-    ensures { result ≡ min (a + n) 18446744073709551615 }
-{
-    let came = n as u64;
-    if came > 18446744073709551615 - a {
-        return 18446744073709551615;
+impl Written {
+    // Nothing was written yet.
+    pub fn unwritten() -> Self
+        ensures { (result.bytes ≡ 0) × (result.taken ≡ true) }
+    {
+        Written {
+            bytes: 0,
+            taken: true,
+        }
     }
-    a + came
+
+    // Whether the write took all of its bytes.
+    pub fn taken(self) -> bool
+        ensures { result ≡ self.taken }
+    {
+        self.taken
+    }
 }
 
 // One read of standard input more: one call of the system, and no byte is read ahead. A call that a signal interrupts is one that failed. Of the bytes that
@@ -56,31 +90,15 @@ pub fn read(mut input: Stdin, b: Brought, free: &mut [u8]) -> Brought
     match input.read(free) {
         Ok(bytes) => Brought {
             room,
-            failed: false,
-            bytes,
-            total: sum(b.total, bytes),
+            came: Ok(bytes),
+            total: b.total.saturating_add(bytes as u64),
         },
         Err(_) => Brought {
             room,
-            failed: true,
-            bytes: 0,
-            total: b.total,
+            came: Err(ReadFailed),
+            ..b
         },
     }
-}
-
-// Whether the last read failed.
-pub fn failed(b: Brought) -> bool
-    ensures { result ≡ b.failed }
-{
-    b.failed
-}
-
-// How many bytes the last read brought.
-pub fn bytes(b: Brought) -> usize
-    ensures { result ≡ b.bytes }
-{
-    b.bytes
 }
 
 // Reads standard input until the room is full, the input ends or a read fails, and answers how many bytes stand at its start then.
@@ -89,24 +107,12 @@ pub fn read_full(input: Stdin, room: &mut [u8]) -> usize
 {
     let mut done = 0;
     while done < room.len() {
-        let b = read(input, unread(), &mut room[done..]);
-        let n = bytes(b);
-        if n == 0 {
-            return done;
+        match read(input, Brought::unread(), &mut room[done..]).count() {
+            0 => break,
+            n => done += n,
         }
-        done += n;
     }
     done
-}
-
-// Nothing was written yet.
-pub fn unwritten() -> Written
-    ensures { (result.bytes ≡ 0) × (result.taken ≡ true) }
-{
-    Written {
-        bytes: 0,
-        taken: true,
-    }
 }
 
 // One write to standard output. Which text it is, the caller's contract says.
@@ -120,13 +126,5 @@ pub fn write(output: Stdout, text: &[u8]) -> Written
 
 // One write to standard output of a text that no definition says, and whether it took all bytes. No value tells of it, so no contract rests on it.
 pub fn print(output: Stdout, text: &[u8]) -> bool {
-    let w = write(output, text);
-    taken(w)
-}
-
-// Whether the write took all of its bytes.
-pub fn taken(w: Written) -> bool
-    ensures { result ≡ w.taken }
-{
-    w.taken
+    write(output, text).taken()
 }

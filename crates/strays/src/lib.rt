@@ -10,10 +10,7 @@ ghost use Rattle.format.specs.Strict.{stray_of};
 fn is_outside(b: u8) -> bool
     ensures { result ≡ outside b }
 {
-    if b < 0x20 {
-        return true;
-    }
-    b > 0x7e
+    b < 0x20 || b > 0x7e
 }
 
 // The place of the first such byte in the text of w bytes at a place, if that ends no later than the limit; zero where there is none.
@@ -25,12 +22,10 @@ fn in_text(s: &[u8], at: usize, w: usize, limit: usize) -> usize
     if limit < end {
         return 0;
     }
-    let mut i = at;
-    while i < end {
+    for i in at..end {
         if is_outside(s[i]) {
             return i;
         }
-        i += 1;
     }
     0
 }
@@ -42,18 +37,12 @@ fn either(p: usize, q: usize) -> usize
     if p == 0 { q } else { p }
 }
 
-fn least(a: usize, b: usize) -> usize
-    ensures { result ≡ min a b }
-{
-    if a < b { a } else { b }
-}
-
 // The place of the first byte outside 20 to 7e in a text of the tag's message that is all there and ends no later than the limit; zero where there is
-// none. K, O and h have an arm of their own, for neighbours in one arm, as J and K, become a range there.
+// none, and no Option, since the definition `stray_of` says it so. K, O and h have an arm of their own, for neighbours in one arm, as J and K, become a range there.
 pub fn stray(s: &[u8], tag: u8, limit: usize) -> usize
     ensures { result ≡ stray_of tag s.now (min limit (length s.now)) }
 {
-    let n = least(limit, s.len());
+    let n = limit.min(s.len());
     match tag {
         b'A' | b'P' => in_text(s, 26, 8, n),
         b'F' => either(in_text(s, 26, 8, n), in_text(s, 38, 4, n)),

@@ -1,2 +1,3 @@
+pub mod Bounds
 pub mod Windows
 pub mod Rooms

@@ -1,11 +1,10 @@
 -- Next: what the reader's answer to the window does to the state.
 -- Assumes nothing.
-use Rattle.std.specs.Prelude.{ℕ, ◌+◌, ◌-◌, false, cond, List, eqb, length, take, drop}
+use Rattle.std.specs.Prelude.{ℕ, ◌+◌, ◌-◌, false, cond, List, eqb, length, take, drop, Ok, Err}
 use Rattle.format.specs.declared.Reading.{Reading}
+use Rattle.format.specs.declared.Fault.TheVariants.{Short, Refused}
 use Rattle.records.specs.declared.Message.{Message as Record}
-use Rattle.reader.specs.Window.{window_of}
-use Rattle.reader.specs.declared.Window.{Window}
-use Rattle.reader.specs.declared.Window.TheVariants.{Message as Accepted, Incomplete, Refused}
+use Rattle.reader.specs.Window.{window_of, Window}
 use Rattle.stream.specs.declared.Stream.{Stream}
 use Rattle.stream.specs.declared.Step.{Step}
 use Rattle.stream.specs.declared.Answer.TheVariants.{Message, Wants}
@@ -30,9 +29,9 @@ taken s m n = record {
 }
 
 abbrev pub next_by : Stream → Window → Step
-next_by s (Accepted m n) = cond (eqb s.messages 18446744073709551615) (refuses s 33) (taken s m n)
-next_by s Incomplete = record { state = s; answer = Wants }
-next_by s (Refused n p) = marks s n p
+next_by s (Ok (m, n)) = cond (eqb s.messages 18446744073709551615) (refuses s 33) (taken s m n)
+next_by s (Err Short) = record { state = s; answer = Wants }
+next_by s (Err (Refused r)) = marks s r.number r.place
 
 unfoldable pub next_of : Reading → Stream → List ℕ → Step
 next_of rd s b = sized (length b) (refuses s) (in_bounds s (refuses s) (next_by s (window_of rd (window_at s b))))

@@ -2,17 +2,16 @@
 // with the answer. The other calls, which read no window, are those of the crate refill.
 #![tactic(auto)]
 
-ghost use Rattle.std.specs.Prelude.{◌≡◌};
+ghost use Rattle.std.specs.Prelude.{◌≡◌, ◌&&◌, leb};
 ghost use Rattle.stream.specs.State.{fresh_state, refuses, marks, consumed_of};
 ghost use Rattle.stream.specs.Next.{next_of};
 
-use format::Reading;
-use reader::Window;
+use format::{Fault, Reading};
 use records::Message;
 
 // The state of a stream. The window is the part of the buffer from start to end; the counts are of bytes told, of read calls and of messages answered.
 // The mark is set by a refusal with 1 to 5, 10 or 11, and a message clears it.
-#[derive(Clone, Copy)]
+#[derive(Clone, Copy, Default)]
 pub struct Stream {
     pub start: usize,
     pub end: usize,
@@ -20,6 +19,15 @@ pub struct Stream {
     pub read_calls: u64,
     pub messages: u64,
     pub error: bool,
+}
+
+impl Stream {
+    // Whether the window lies within the buffer. A call on a state where it does not is refused with 30.
+    pub fn in_bounds(&self) -> bool
+        ensures { result ≡ (leb self.now.start self.now.end && leb self.now.end 8192) }
+    {
+        self.start <= self.end && self.end <= 8192
+    }
 }
 
 // What a call answers: a message; the window wants bytes; ready, since there is room or bytes came; nothing more; refused, with number and place.
@@ -43,14 +51,7 @@ pub struct Step {
 pub fn fresh() -> Stream
     ensures { result ≡ fresh_state }
 {
-    Stream {
-        start: 0,
-        end: 0,
-        bytes_read: 0,
-        read_calls: 0,
-        messages: 0,
-        error: false,
-    }
+    Stream::default()
 }
 
 // A refusal with 30 to 34, that leaves the state.
@@ -74,14 +75,7 @@ pub fn marked(s: Stream, number: u8, place: usize) -> Step
         };
     }
     Step {
-        state: Stream {
-            start: s.start,
-            end: s.end,
-            bytes_read: s.bytes_read,
-            read_calls: s.read_calls,
-            messages: s.messages,
-            error: true,
-        },
+        state: Stream { error: true, ..s },
         answer: Answer::Refused(number, place),
     }
 }
@@ -91,40 +85,32 @@ pub fn marked(s: Stream, number: u8, place: usize) -> Step
 pub fn next_of(s: Stream, buf: &[u8], reading: Reading) -> Step
     ensures { result ≡ next_of reading s buf.now }
 {
-    let start = s.start;
-    let end = s.end;
-    let messages = s.messages;
     if buf.len() != 8192 {
         return refused(s, 31);
     }
-    if start > end {
+    if !s.in_bounds() {
         return refused(s, 30);
     }
-    if end > 8192 {
-        return refused(s, 30);
-    }
-    match reader::parse_message(&buf[start..end], reading) {
-        Window::Message(message, used) => {
-            if messages == 18446744073709551615 {
+    match reader::parse_message(&buf[s.start..s.end], reading) {
+        Ok((message, used)) => {
+            if s.messages == u64::MAX {
                 return refused(s, 33);
             }
             Step {
                 state: Stream {
-                    start: start + used,
-                    end,
-                    bytes_read: s.bytes_read,
-                    read_calls: s.read_calls,
-                    messages: messages + 1,
+                    start: s.start + used,
+                    messages: s.messages + 1,
                     error: false,
+                    ..s
                 },
                 answer: Answer::Message(message),
             }
         }
-        Window::Incomplete => Step {
+        Err(Fault::Short) => Step {
             state: s,
             answer: Answer::Wants,
         },
-        Window::Refused(number, place) => marked(s, number, place),
+        Err(Fault::Refused(r)) => marked(s, r.number, r.place),
     }
 }
 
@@ -133,15 +119,8 @@ pub fn next_of(s: Stream, buf: &[u8], reading: Reading) -> Step
 pub fn consumed(s: Stream) -> u64
     ensures { result ≡ consumed_of s }
 {
-    let start = s.start;
-    let end = s.end;
-    let bytes_read = s.bytes_read;
-    if start > end {
-        return 0;
+    match s.end.checked_sub(s.start) {
+        Some(held) => s.bytes_read.saturating_sub(held as u64),
+        None => 0,
     }
-    let held = (end - start) as u64;
-    if held > bytes_read {
-        return 0;
-    }
-    bytes_read - held
 }

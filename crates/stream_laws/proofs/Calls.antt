@@ -10,9 +10,10 @@ use mir.Val.{has_key}
 use denote.Enum.Declared.{tag_of, declared}
 use lib.Dec.{T}
 use lib.ListN.{length}
+use Rattle.std.specs.Prelude.{Ok, Err}
 use Rattle.format.specs.declared.Reading.{Reading}
+use Rattle.format.specs.declared.Fault.TheVariants.{Short}
 use Rattle.records.specs.declared.Message.{Message as Record}
-use Rattle.reader.specs.declared.Window.TheVariants.{Message as Accepted, Incomplete}
 use Rattle.reader.specs.Window.{window_of}
 use Rattle.stream.specs.contracts.Answer.{enum}
 use Rattle.stream.specs.declared.Stream.{Stream}
@@ -58,7 +59,7 @@ pub record Takes (rd : Reading) (s : Stream) (b : List ℕ) (m : Record) (x : St
   pub sound : Sound s
   pub whole : length b ≡ 8192
   pub used : ℕ
-  pub accepts : window_of rd (window_at s b) ≡ Accepted m used
+  pub accepts : window_of rd (window_at s b) ≡ Ok (m, used)
   pub counts : s.messages ≡ 18446744073709551615 → ⊥
   pub step : x ≡ taken s m used
 
@@ -67,7 +68,7 @@ unfolding stops
 takes_step rd s b m _ (no-next _) e = let z : ◌≡◌ {A = ℕ} 0 1 = cc in absurd (omega arith)
 takes_step rd s b m _ (message h l r n w f) e =
     let same : r ≡ m = cc in
-    record { sound = h; whole = l; used = n; accepts = w ∙ ap (λ (r : Record). Accepted r n) same; counts = f; step = ap (λ (r : Record). taken s r n) same }
+    record { sound = h; whole = l; used = n; accepts = w ∙ ap (λ (r : Record). Ok (r, n)) same; counts = f; step = ap (λ (r : Record). taken s r n) same }
 takes_step rd s b m _ (wants h l w) e = let z : ◌≡◌ {A = ℕ} 0 1 = cc in absurd (omega arith)
 takes_step rd s b m _ (marked_next h l n p w) e = absurd (stops-not (marks-stops s n p) refl e)
 
@@ -78,7 +79,7 @@ next-takes rd s b m e = takes_step rd s b m (next_of rd s b) (next-is rd s b) e
 pub record Waits (rd : Reading) (s : Stream) (b : List ℕ) (x : Step) : Type 0 where
   pub sound : Sound s
   pub whole : length b ≡ 8192
-  pub short : window_of rd (window_at s b) ≡ Incomplete
+  pub short : window_of rd (window_at s b) ≡ Err Short
   pub kept : x.state ≡ s
 
 waits-step : (rd : Reading) (s : Stream) (b : List ℕ) (x : Step) → Next rd s b x → x.answer ≡ Wants → Waits rd s b x

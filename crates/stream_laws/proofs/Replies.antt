@@ -6,11 +6,11 @@ use mathlib.Core.Bool.{Bool, true, false, cond}
 use mathlib.Core.List.{List}
 use lib.Dec.{ltb, leb, eqb}
 use lib.ListN.{length}
+use Rattle.std.specs.Prelude.{Ok, Err}
 use Rattle.format.specs.declared.Reading.{Reading}
+use Rattle.format.specs.declared.Fault.TheVariants.{Short, Refused as Bad}
 use Rattle.records.proofs.Back.{body_back}
-use Rattle.reader.specs.declared.Window.{Window}
-use Rattle.reader.specs.declared.Window.TheVariants.{Message as Accepted, Incomplete, Refused as Bad}
-use Rattle.reader.specs.Window.{window_m, window_of}
+use Rattle.reader.specs.Window.{window_m, window_of, Window}
 use Rattle.laws.proofs.Unique.{one-to-one, pushed}
 use Rattle.stream.specs.declared.Stream.{Stream}
 use Rattle.stream.specs.declared.Step.{Step}
@@ -49,9 +49,9 @@ marks-said : (s : Stream) (n p : ℕ) → said (marks s n p) ≡ told_once s n p
 marks-said s n p = pushed said s.error _ _
 
 by_said : (s : Stream) (w : Window) → said (next_by s w) ≡ next_reply_by s (window_m w)
-by_said s (Accepted m n) = pushed said (eqb s.messages 18446744073709551615) (refuses s 33) (taken s m n)
-by_said s Incomplete = refl
-by_said s (Bad n p) = marks-said s n p
+by_said s (Ok (m, n)) = pushed said (eqb s.messages 18446744073709551615) (refuses s 33) (taken s m n)
+by_said s (Err Short) = refl
+by_said s (Err (Bad r)) = marks-said s r.number r.place
 
 -- next answers by what the window means, by a reading
 pub next-means : (rd : Reading) (s : Stream) (b : List ℕ) → reply_m (next_of rd s b).answer ≡ next_reply s (length b) (window_m (window_of rd (window_at s b)))

@@ -8,11 +8,12 @@ use native.Mathlib.Omega.{arith}
 use borrow.Author.Tests.{ltb-true, ltb-false, leb-true, leb-false, eqb-true, eqb-false}
 use lib.Dec.{ltb, leb, eqb}
 use lib.ListN.{length}
+use Rattle.std.specs.Prelude.{Ok, Err}
 use Rattle.format.specs.declared.Reading.{Reading}
+use Rattle.format.specs.declared.Fault.TheVariants.{Short, Refused}
+use Rattle.format.specs.Meaning.{bad}
 use Rattle.records.specs.declared.Message.{Message as Record}
-use Rattle.reader.specs.declared.Window.{Window}
-use Rattle.reader.specs.declared.Window.TheVariants.{Message as Accepted, Incomplete, Refused as Bad}
-use Rattle.reader.specs.Window.{window_of}
+use Rattle.reader.specs.Window.{window_of, Window}
 use Rattle.stream.specs.declared.Stream.{Stream}
 use Rattle.stream.specs.declared.Step.{Step}
 use Rattle.stream.specs.declared.Answer.TheVariants.{Wants, Nothing}
@@ -50,18 +51,18 @@ pub data NoNext (s : Stream) (b : List ℕ) : ℕ → Type 0 where
 
 pub data Next (rd : Reading) (s : Stream) (b : List ℕ) : Step → Type 0 where
   no-next : {n : ℕ} → NoNext s b n → Next rd s b (refuses s n)
-  message : Sound s → length b ≡ 8192 → (m : Record) (n : ℕ) → window_of rd (window_at s b) ≡ Accepted m n → (s.messages ≡ 18446744073709551615 → ⊥)
+  message : Sound s → length b ≡ 8192 → (m : Record) (n : ℕ) → window_of rd (window_at s b) ≡ Ok (m, n) → (s.messages ≡ 18446744073709551615 → ⊥)
       → Next rd s b (taken s m n)
-  wants : Sound s → length b ≡ 8192 → window_of rd (window_at s b) ≡ Incomplete → Next rd s b (record { state = s; answer = Wants })
-  marked_next : Sound s → length b ≡ 8192 → (n p : ℕ) → window_of rd (window_at s b) ≡ Bad n p → Next rd s b (marks s n p)
+  wants : Sound s → length b ≡ 8192 → window_of rd (window_at s b) ≡ Err Short → Next rd s b (record { state = s; answer = Wants })
+  marked_next : Sound s → length b ≡ 8192 → (n p : ℕ) → window_of rd (window_at s b) ≡ Err (bad n p) → Next rd s b (marks s n p)
 
 next-by : (rd : Reading) (s : Stream) (b : List ℕ) (w : Window) → Sound s → length b ≡ 8192 → window_of rd (window_at s b) ≡ w → Next rd s b (next_by s w)
-next-by rd s b (Accepted m n) h l e =
+next-by rd s b (Ok (m, n)) h l e =
     test (Next rd s b) (eqb s.messages 18446744073709551615)
     (λ a. no-next (33-next (omega (arith, eqb-true s.messages 18446744073709551615 a))))
     (λ a. message h l m n e (eqb-false _ _ a))
-next-by rd s b Incomplete h l e = wants h l e
-next-by rd s b (Bad n p) h l e = marked_next h l n p e
+next-by rd s b (Err Short) h l e = wants h l e
+next-by rd s b (Err (Refused r)) h l e = marked_next h l r.number r.place e
 
 pub next-is : (rd : Reading) (s : Stream) (b : List ℕ) → Next rd s b (next_of rd s b)
 unfolding next_of

@@ -1,28 +1,29 @@
 -- The table's laws: the number of a row, that the codes ascend, and so what a search by halves knows at each step and in the end.
 -- Assumes nothing.
-use Prim.Native.Nat.{ℕ, zero, suc, ◌+◌, ◌*◌, ◌-◌, ◌/◌, ◌≤◌, ◌<◌}
+use Prim.Native.Nat.{ℕ, zero, suc, ◌≤◌, ◌<◌}
 use mathlib.Core.Path.{◌≡◌, refl, sym, ap, ◌∙◌}
-use mathlib.Core.Bool.{Bool, true, false, ◌&&◌}
+use mathlib.Core.Bool.{Bool, true, false, cond, ◌&&◌}
 use mathlib.Core.List.{List, [], ◌∷◌}
 use mathlib.Core.Logic.{◌⊎◌, inl, inr}
 use native.Mathlib.Nat.{le_refl, le_of_lt, lt_trans, le_of_suc-le-suc}
 use native.Mathlib.Omega.{arith}
 use lib.Dec.{T, eqb, ltb, ltb→lt}
-use lib.ListN.{length, get_or, get_or-map, get_or-eq_default}
+use lib.ListN.{length, get_or, get_or-map, length-map}
 use borrow.Author.Tests.{eqb-true, eqb-false, lt-ltb, le-ltb}
+use Rattle.std.specs.Prelude.{Some, None, Result, Ok, Err}
+use Rattle.std.specs.Ordering.{nat_cmp, ordering_index}
+use Rattle.std.specs.declared.cmp.Ordering.TheVariants.{Less, Equal, Greater}
+use Rattle.std.specs.Result.{result_ok}
+use Rattle.std.specs.List.Sorted.{IsBinarySearchResult, IsSearchInRange, IsNonDecreasingBy}
+use Rattle.std.proofs.lemmas.Bool.Decides.{nat_tests}
+use Rattle.std.proofs.lemmas.List.Sorted.{IsNonDecreasingBy-from_default}
 use Rattle.format.specs.Codes.{subtypes}
 use Rattle.format.specs.Layout.{be, member}
 use Rattle.format.proofs.Tests.{both, le-or-lt}
-use Rattle.subtypes.specs.Rows.{Listed, index_in}
+use Rattle.subtypes.specs.Rows.{Listed, index_in, row_in}
 use Rattle.subtypes.proofs.Index.{Stands, stands, stands-first, stands-member}
 
--- the number of a row, and which one it is in the table
-pub row_number : (r : List ℕ) → length r ≡ 2 → get_or r 0 0 * 256 + get_or r 1 0 ≡ be r
-row_number [] e = omega (arith, e)
-row_number (a ∷ []) e = omega (arith, e)
-row_number (a ∷ b ∷ []) e = omega arith
-row_number (a ∷ b ∷ c ∷ r) e = omega (arith, e)
-
+-- which number a row is in the table
 pub listed : (rows : List (List ℕ)) (i : ℕ) → Listed rows → be (get_or rows i []) ≡ get_or subtypes i 0
 listed rows i e = sym (get_or-map be rows i []) ∙ ap (λ ks. get_or ks i 0) e
 
@@ -58,67 +59,78 @@ pub codes-count : length subtypes ≡ 58
 unfolding subtypes
 codes-count = refl
 
--- behind the last row there is none
-pub codes-end : (i : ℕ) → 58 ≤ i → 0 ≡ get_or subtypes i 0
-codes-end i h = sym (get_or-eq_default subtypes 0 (omega (arith, codes-count, h)))
+-- what a search by halves says of the rows: a row of v, or where v would stand, between the rows below it and those above
+same : (x v : ℕ) → nat_cmp x v ≡ Equal → x ≡ v
+same x v e = grind (arith, nat_tests)
 
--- what a search for v knows: there are rows left, and wherever v stands in the table it is one of these
-pub record Within (v low left : ℕ) : Type 0 where
-  pub some : 0 < left
-  pub inside : low + left ≤ 58
-  pub only : (i : ℕ) → i < 58 → get_or subtypes i 0 ≡ v → (low ≤ i) × (i < low + left)
+apart : (x v : ℕ) → (nat_cmp x v ≡ Less) ⊎ (nat_cmp x v ≡ Greater) → x ≡ v → ⊥
+apart x v (inl h) e = grind (arith, nat_tests)
+apart x v (inr h) e = grind (arith, nat_tests)
 
-pub all-within : (v : ℕ) → Within v 0 58
-all-within v = record { some = omega arith; inside = omega arith; only = λ i h e. (omega arith, omega (arith, h)) }
+rises : (x y v : ℕ) → x ≤ y → ordering_index (nat_cmp x v) ≤ ordering_index (nat_cmp y v)
+rises x y v h = grind (arith, nat_tests)
 
--- a step: the row half of them further on is not above v, and what is before it goes; or it is above v, and it goes with what follows
-pub upper : {v low left : ℕ} → Within v low left → 1 < left → get_or subtypes (low + left / 2) 0 ≤ v → Within v (low + left / 2) (left - left / 2)
-upper {v} {low} {left} w l c = record {
-  some = omega (arith, l);
-  inside = omega (arith, l, w.inside);
-  only = λ i h e. (from i e (le-or-lt (low + left / 2) i), omega (arith, l, (w.only i h e).1));
-}
+rows-count : (rows : List (List ℕ)) → Listed rows → length rows ≡ 58
+rows-count rows e = (simp length-map at (ap length e)) ∙ codes-count
+
+row-found : (v i : ℕ) → i < 58 → get_or subtypes i 0 ≡ v → Some i ≡ row_in v subtypes
+row-found v i h e = go (stands v subtypes) (stands-first v subtypes i (omega (arith, codes-count)) e)
   where
-    from : (i : ℕ) → get_or subtypes i 0 ≡ v → (low + left / 2 ≤ i) ⊎ (i < low + left / 2) → low + left / 2 ≤ i
-    from i e (inl h) = h
-    from i e (inr h) = let r = codes-ascend i (low + left / 2) h (omega (arith, l, w.inside)) in omega (arith, r, e, c)
+    go : Stands v subtypes → index_in v subtypes ≤ i → Some i ≡ row_in v subtypes
+    go (inl k) q =
+        let r : i ≤ index_in v subtypes = up (le-or-lt i (index_in v subtypes)) in
+        let o : i ≡ index_in v subtypes = omega (arith, q, r) in
+        ap Some o ∙ sym (ap (λ t. cond t (Some (index_in v subtypes)) None) (lt-ltb _ _ k.0))
+      where
+        up : (i ≤ index_in v subtypes) ⊎ (index_in v subtypes < i) → i ≤ index_in v subtypes
+        up (inl l) = l
+        up (inr l) = let r = codes-ascend (index_in v subtypes) i l h in omega (arith, r, e, k.1)
+    go (inr k) q = absurd (omega (arith, codes-count, k, q, h))
 
-pub lower : {v low left : ℕ} → Within v low left → 1 < left → v < get_or subtypes (low + left / 2) 0 → Within v low (left - left / 2)
-lower {v} {low} {left} w l c = record {
-  some = omega (arith, l);
-  inside = omega (arith, l, w.inside);
-  only = λ i h e. ((w.only i h e).0, to i h e (le-or-lt (low + left / 2) i));
-}
+row-missed : (v : ℕ) → ((i : ℕ) → i < 58 → get_or subtypes i 0 ≡ v → ⊥) → None ≡ row_in v subtypes
+row-missed v n = go (stands v subtypes)
   where
-    to : (i : ℕ) → i < 58 → get_or subtypes i 0 ≡ v → (low + left / 2 ≤ i) ⊎ (i < low + left / 2) → i < low + (left - left / 2)
-    to i h e (inl k) = let r = codes-rise (low + left / 2) i k h in omega (arith, r, e, c)
-    to i h e (inr k) = omega (arith, l, k)
+    go : Stands v subtypes → None ≡ row_in v subtypes
+    go (inl k) = absurd (n (index_in v subtypes) (omega (arith, codes-count, k.0)) k.1)
+    go (inr k) = sym (ap (λ t. cond t (Some (index_in v subtypes)) None) (le-ltb _ _ (omega (arith, k))))
 
--- the end, where one row is left: v stands there, or nowhere
-pub found : {v low left : ℕ} → Within v low left → left ≤ 1 → get_or subtypes low 0 ≡ v → low ≡ index_in v subtypes
-found {v} {low} {left} w l e = go (stands v subtypes) (stands-first v subtypes low (omega (arith, codes-count, w.some, w.inside)) e)
+pub row-searched : (rows : List (List ℕ)) (v : ℕ) (r : Result ℕ ℕ) → Listed rows → IsSearchInRange r (length rows)
+    → IsBinarySearchResult (λ y. nat_cmp (be y) v) rows r → result_ok r ≡ row_in v subtypes
+row-searched rows v (Ok i) e h at =
+    let n = rows-count rows e in
+    row-found v i (omega (arith, n, h)) (sym (listed rows i e) ∙ same _ v (at []))
+row-searched rows v (Err i) e h at =
+    row-missed v (λ k l q. apart _ v (side k l (le-or-lt i k)) (listed rows k e ∙ q))
   where
-    go : Stands v subtypes → index_in v subtypes ≤ low → low ≡ index_in v subtypes
-    go (inl h) k = let r = (w.only (index_in v subtypes) (omega (arith, codes-count, h.0)) h.1).0 in omega (arith, k, r)
-    go (inr h) k = omega (arith, codes-count, h, k, w.some, w.inside)
+    n : length rows ≡ 58
+    n = rows-count rows e
 
-pub missed : {v low left : ℕ} → Within v low left → left ≤ 1 → (get_or subtypes low 0 ≡ v → ⊥) → 58 ≡ index_in v subtypes
-missed {v} {low} {left} w l n = go (stands v subtypes)
-  where
-    go : Stands v subtypes → 58 ≡ index_in v subtypes
-    go (inl h) =
-        let r = w.only (index_in v subtypes) (omega (arith, codes-count, h.0)) h.1 in
-        let q : index_in v subtypes ≡ low = omega (arith, l, r.0, r.1) in
-        absurd (n (ap (λ i. get_or subtypes i 0) (sym q) ∙ h.1))
-    go (inr h) = sym (h ∙ codes-count)
+    up : IsNonDecreasingBy (λ y. ordering_index (nat_cmp (be y) v)) rows
+    up = IsNonDecreasingBy-from_default (λ y. ordering_index (nat_cmp (be y) v)) rows [] (λ a b l m.
+        rises _ _ v (rw (listed rows a e, listed rows b e) (codes-rise a b l (omega (arith, m, n)))))
+
+    side : (k : ℕ) → k < 58 → (i ≤ k) ⊎ (k < i) → (nat_cmp (be (get_or rows k [])) v ≡ Less) ⊎ (nat_cmp (be (get_or rows k [])) v ≡ Greater)
+    side k l (inl g) = inr ((at up).1 k [] g (omega (arith, l, n)))
+    side k l (inr g) = inl ((at up).0 k [] (omega arith) g)
 
 -- whether two bytes are a code is seen from their row, and the row has them
-pub row-is-code : (v : ℕ) {row : ℕ} → row ≡ index_in v subtypes → row < 58 → (member v subtypes ≡ true) × (get_or subtypes row 0 ≡ v)
-row-is-code v {row} e h = go (stands v subtypes)
+pub row-is-code : (v : ℕ) {row : ℕ} → Some row ≡ row_in v subtypes → (row < 58) × (member v subtypes ≡ true) × (get_or subtypes row 0 ≡ v)
+row-is-code v {row} e = go (stands v subtypes)
   where
-    go : Stands v subtypes → (member v subtypes ≡ true) × (get_or subtypes row 0 ≡ v)
-    go (inl k) = (stands-member v subtypes ∙ lt-ltb _ _ k.0, rw e k.1)
-    go (inr k) = absurd (omega (arith, codes-count, e, h, k))
+    go : Stands v subtypes → (row < 58) × (member v subtypes ≡ true) × (get_or subtypes row 0 ≡ v)
+    go (inl k) =
+        let s : Some row ≡ Some (index_in v subtypes) = e ∙ ap (λ t. cond t (Some (index_in v subtypes)) None) (lt-ltb _ _ k.0) in
+        let r : row ≡ index_in v subtypes = cc in
+        (omega (arith, codes-count, k.0, r), stands-member v subtypes ∙ lt-ltb _ _ k.0, rw r k.1)
+    go (inr k) =
+        let s : Some row ≡ None = e ∙ ap (λ t. cond t (Some (index_in v subtypes)) None) (le-ltb _ _ (omega (arith, k))) in
+        cc
 
-pub row-is-none : (v : ℕ) {row : ℕ} → row ≡ index_in v subtypes → 58 ≤ row → member v subtypes ≡ false
-row-is-none v {row} e h = stands-member v subtypes ∙ le-ltb (index_in v subtypes) (length subtypes) (omega (arith, codes-count, e, h))
+pub row-is-none : (v : ℕ) → None ≡ row_in v subtypes → member v subtypes ≡ false
+row-is-none v e = go (stands v subtypes)
+  where
+    go : Stands v subtypes → member v subtypes ≡ false
+    go (inl k) =
+        let s : None ≡ Some (index_in v subtypes) = e ∙ ap (λ t. cond t (Some (index_in v subtypes)) None) (lt-ltb _ _ k.0) in
+        cc
+    go (inr k) = stands-member v subtypes ∙ le-ltb _ _ (omega (arith, k))

@@ -1,6 +1,6 @@
 // The 58 codes of the issue subtype, in ascending order, one a row, and beside each the Rust's name. Where the exchange's list has one letter, the second
 // byte is a space.
-pub const SUBTYPES: [[u8; 2]; 58] = [
+pub static SUBTYPES: [[u8; 2]; 58] = [
     *b"A ", // PreferredTrustSecurities
     *b"AI", // AlphaIndexETNs
     *b"B ", // IndexBasedDerivative

@@ -1,22 +1,16 @@
--- A code's leaf: the byte is read, then judged by its set. One law for all sets.
+-- Whether a byte is a code: the codes that the arms of a match name are of the set. One law for all sets.
 -- Assumes nothing.
-use mathlib.Core.Path.{◌≡◌, refl, sym, ap, ◌∙◌}
-use mathlib.Core.Bool.{Bool, true, false, cond, ◌&&◌}
+use mathlib.Core.Path.{◌≡◌, refl, sym}
+use mathlib.Core.Bool.{Bool, true, false, ◌&&◌}
 use mathlib.Core.List.{List, [], ◌∷◌}
 use mathlib.Core.Logic.{inl, inr}
 use Prim.Native.Nat.{ℕ, zero, suc, ◌+◌, ◌≤◌, ◌<◌}
-use native.Mathlib.Nat.{zero-add}
 use native.Mathlib.Omega.{arith}
 use lib.Dec.{T, eqb}
 use types.Run.{OneOf}
 use borrow.Author.Tests.{eqb-true, eqb-false}
-use Rattle.format.specs.Layout.{Kind, num, code, width, member, Got, fine, wrong, judge, placed, field, judge_by}
-use Rattle.format.specs.Meaning.{num8_m}
-use Rattle.format.specs.declared.Fault.{Fault}
-use Rattle.format.specs.declared.Num8.{Num8}
-use Rattle.format.specs.declared.Num8.TheVariants.{Got as Got8, No as No8}
+use Rattle.format.specs.Layout.{member}
 use Rattle.format.proofs.Tests.{both, is_true}
-use Rattle.format.proofs.Fields.{one_byte, num-short}
 
 -- the codes that a match names one by one, and those that it names by a range, are in a set if the set has them all
 abbrev within : List ℕ → List ℕ → Bool
@@ -45,16 +39,3 @@ in-range set lo (suc n) b t l h = go (eqb b lo) refl (in-range set (lo + 1) n b 
     go false e rest =
         let d : b ≡ lo → ⊥ = eqb-false b lo e in
         rest (omega arith) (omega arith)
-
--- no byte
-pub code-short : (k : Kind) (s : List ℕ) (at : ℕ) {f : Num8} {e : Fault} → width k ≡ 1 → num8_m f ≡ field (num 1) s at → f ≡ No8 e → num8_m f ≡ field k s at
-code-short k s at {f} {e} w p q = ap num8_m q ∙ sym (num-short k 1 s at e w (sym p ∙ ap num8_m q))
-
-judged-code : (set : List ℕ) (b : ℕ) → judge (code set) (b ∷ []) ≡ cond (member b set) (fine b) (wrong 2 0)
-unfolding judge_by
-judged-code set b = rw zero-add
-
-pub code_got : (set s : List ℕ) (at : ℕ) {f : Num8} {g : Got} {b : ℕ} {t : Bool} → num8_m f ≡ field (num 1) s at → f ≡ Got8 b → t ≡ member b set
-    → g ≡ placed at (cond t (fine b) (wrong 2 0)) → g ≡ field (code set) s at
-code_got set s at {b = b} p q l j =
-    j ∙ rw l (ap (placed at) (sym (judged-code set b))) ∙ sym (one_byte (code set) s at refl (sym p ∙ ap num8_m q))

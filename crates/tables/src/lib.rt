@@ -1,23 +1,21 @@
 // The two tables and what is decided from them: a tag's size, and whether a byte is a legal code of a set.
 //
-// A leaf (`.._at`) answers the code at a place of a window, short where the window ends before it, and 2 with the place where the byte there is no
-// code of its set. Which bytes are codes is said by specs/Codes of the crate `format`.
+// Which bytes are codes is said by specs/Codes of the crate `format`.
 //
 // A table that is indexed where it is used is built anew on the stack at each use, so what is likely is decided by constants that are computed
 // from the tables when the program is compiled, and only a byte that is no code of its set is looked up. The tables stay the one source.
 #![tactic(auto)]
 
-ghost use Rattle.std.specs.Prelude.{◌≡◌, cond};
+ghost use Rattle.std.specs.Prelude.{◌≡◌};
 ghost use Rattle.format.specs.Codes.{side, yes_no, trading_state, direction, imbalance_cross, qualifier, maker_mode, participant_state, interest, cross, category, status, class, authenticity, flag, tier, etp_flag, event, level, action, market, halt};
-ghost use Rattle.format.specs.Layout.{member, code, field, placed, fine, wrong};
+ghost use Rattle.format.specs.Layout.{member};
 ghost use Rattle.format.specs.Rows.{size_by};
-ghost use Rattle.format.specs.Meaning.{num8_m};
 ghost use Rattle.tables.specs.Masks.{mask_of, Legal};
 
 mod masks;
 mod sizes;
 
-use format::{Edition, Fault, Num8, Reading};
+use format::{Edition, Reading};
 use masks::MASKS;
 use sizes::SIZES;
 
@@ -119,21 +117,12 @@ fn legal(b: u8, bit: u32) -> bool
     mask(b) & bit != 0
 }
 
-// The answer of a leaf that read a code: the value v where the byte was legal, else 2 with the place.
-fn judged(v: u8, place: u8, legal: bool) -> Num8
-    ensures { num8_m result ≡ placed place (cond legal (fine v) (wrong 2 0)) }
-{
-    if legal {
-        Num8::Got(v)
-    } else {
-        Num8::No(Fault::Refused(2, place as usize))
-    }
-}
-
-// Whether the table has every byte that an arm below names in the set. So for each set: its constant, whether a byte is in it, its leaf.
+// Whether the table has every byte that an arm below names in the set. So for each set: its constant, and whether a byte is in it. No generic
+// function stands in for them: the arms, in which they differ, are all that each of them is.
 const SIDE_ARMS: bool = MASKS[b'B' as usize] & MASKS[b'S' as usize] & masks::SIDE != 0;
 
-fn is_side(b: u8) -> bool
+// Whether a byte is a code of the side: B or S.
+pub fn is_side(b: u8) -> bool
     ensures { result ≡ member b side }
 {
     match b {
@@ -142,37 +131,16 @@ fn is_side(b: u8) -> bool
     }
 }
 
-// The side at a place: B or S; else 2.
-pub fn side_at(s: &[u8], place: u8) -> Num8
-    ensures { num8_m result ≡ field (code side) s.now place }
-{
-    let f = format::be_u8(s, place);
-    let Num8::Got(b) = f else {
-        return f;
-    };
-    judged(b, place, is_side(b))
-}
-
 const YES_NO_ARMS: bool = MASKS[b'Y' as usize] & MASKS[b'N' as usize] & masks::YES_NO != 0;
 
-fn is_yes_no(b: u8) -> bool
+// Whether a byte is a code of yes or no: Y or N.
+pub fn is_yes_no(b: u8) -> bool
     ensures { result ≡ member b yes_no }
 {
     match b {
         b'Y' | b'N' => YES_NO_ARMS,
         _ => legal(b, masks::YES_NO),
     }
-}
-
-// Yes or no at a place: Y or N; else 2.
-pub fn yes_no_at(s: &[u8], place: u8) -> Num8
-    ensures { num8_m result ≡ field (code yes_no) s.now place }
-{
-    let f = format::be_u8(s, place);
-    let Num8::Got(b) = f else {
-        return f;
-    };
-    judged(b, place, is_yes_no(b))
 }
 
 const TRADING_STATE_ARMS: bool = MASKS[b'H' as usize]
@@ -182,24 +150,14 @@ const TRADING_STATE_ARMS: bool = MASKS[b'H' as usize]
     & masks::TRADING_STATE
     != 0;
 
-fn is_trading_state(b: u8) -> bool
+// Whether a byte is a code of the trading state: H, P, Q or T.
+pub fn is_trading_state(b: u8) -> bool
     ensures { result ≡ member b trading_state }
 {
     match b {
         b'H' | b'P' | b'Q' | b'T' => TRADING_STATE_ARMS,
         _ => legal(b, masks::TRADING_STATE),
     }
-}
-
-// The trading state at a place: H, P, Q or T; else 2.
-pub fn trading_state_at(s: &[u8], place: u8) -> Num8
-    ensures { num8_m result ≡ field (code trading_state) s.now place }
-{
-    let f = format::be_u8(s, place);
-    let Num8::Got(b) = f else {
-        return f;
-    };
-    judged(b, place, is_trading_state(b))
 }
 
 const DIRECTION_ARMS: bool = MASKS[b'B' as usize]
@@ -209,24 +167,14 @@ const DIRECTION_ARMS: bool = MASKS[b'B' as usize]
     & masks::DIRECTION
     != 0;
 
-fn is_direction(b: u8) -> bool
+// Whether a byte is a code of the imbalance's direction: B, S, N or O.
+pub fn is_direction(b: u8) -> bool
     ensures { result ≡ member b direction }
 {
     match b {
         b'B' | b'S' | b'N' | b'O' => DIRECTION_ARMS,
         _ => legal(b, masks::DIRECTION),
     }
-}
-
-// The imbalance's direction at a place: B, S, N or O; else 2.
-pub fn direction_at(s: &[u8], place: u8) -> Num8
-    ensures { num8_m result ≡ field (code direction) s.now place }
-{
-    let f = format::be_u8(s, place);
-    let Num8::Got(b) = f else {
-        return f;
-    };
-    judged(b, place, is_direction(b))
 }
 
 const IMBALANCE_CROSS_ARMS: bool = MASKS[b'O' as usize]
@@ -236,7 +184,8 @@ const IMBALANCE_CROSS_ARMS: bool = MASKS[b'O' as usize]
     & masks::IMBALANCE_CROSS
     != 0;
 
-fn is_imbalance_cross(b: u8) -> bool
+// Whether a byte is a code of the cross of an imbalance: O, C, H or A.
+pub fn is_imbalance_cross(b: u8) -> bool
     ensures { result ≡ member b imbalance_cross }
 {
     match b {
@@ -245,37 +194,16 @@ fn is_imbalance_cross(b: u8) -> bool
     }
 }
 
-// The cross of an imbalance at a place: O, C, H or A; else 2.
-pub fn imbalance_cross_at(s: &[u8], place: u8) -> Num8
-    ensures { num8_m result ≡ field (code imbalance_cross) s.now place }
-{
-    let f = format::be_u8(s, place);
-    let Num8::Got(b) = f else {
-        return f;
-    };
-    judged(b, place, is_imbalance_cross(b))
-}
-
 const QUALIFIER_ARMS: bool = MASKS[b'A' as usize] & MASKS[b'C' as usize] & masks::QUALIFIER != 0;
 
-fn is_qualifier(b: u8) -> bool
+// Whether a byte is a code of the release's qualifier: A or C.
+pub fn is_qualifier(b: u8) -> bool
     ensures { result ≡ member b qualifier }
 {
     match b {
         b'A' | b'C' => QUALIFIER_ARMS,
         _ => legal(b, masks::QUALIFIER),
     }
-}
-
-// The release's qualifier at a place: A or C; else 2.
-pub fn qualifier_at(s: &[u8], place: u8) -> Num8
-    ensures { num8_m result ≡ field (code qualifier) s.now place }
-{
-    let f = format::be_u8(s, place);
-    let Num8::Got(b) = f else {
-        return f;
-    };
-    judged(b, place, is_qualifier(b))
 }
 
 const MAKER_MODE_ARMS: bool = MASKS[b'N' as usize]
@@ -286,24 +214,14 @@ const MAKER_MODE_ARMS: bool = MASKS[b'N' as usize]
     & masks::MAKER_MODE
     != 0;
 
-fn is_maker_mode(b: u8) -> bool
+// Whether a byte is a code of the market maker's mode: N, P, S, R or L.
+pub fn is_maker_mode(b: u8) -> bool
     ensures { result ≡ member b maker_mode }
 {
     match b {
         b'N' | b'P' | b'S' | b'R' | b'L' => MAKER_MODE_ARMS,
         _ => legal(b, masks::MAKER_MODE),
     }
-}
-
-// The market maker's mode at a place: N, P, S, R or L; else 2.
-pub fn maker_mode_at(s: &[u8], place: u8) -> Num8
-    ensures { num8_m result ≡ field (code maker_mode) s.now place }
-{
-    let f = format::be_u8(s, place);
-    let Num8::Got(b) = f else {
-        return f;
-    };
-    judged(b, place, is_maker_mode(b))
 }
 
 const PARTICIPANT_STATE_ARMS: bool = MASKS[b'A' as usize]
@@ -314,24 +232,14 @@ const PARTICIPANT_STATE_ARMS: bool = MASKS[b'A' as usize]
     & masks::PARTICIPANT_STATE
     != 0;
 
-fn is_participant_state(b: u8) -> bool
+// Whether a byte is a code of the participant's state: A, E, W, S or D.
+pub fn is_participant_state(b: u8) -> bool
     ensures { result ≡ member b participant_state }
 {
     match b {
         b'A' | b'E' | b'W' | b'S' | b'D' => PARTICIPANT_STATE_ARMS,
         _ => legal(b, masks::PARTICIPANT_STATE),
     }
-}
-
-// The participant's state at a place: A, E, W, S or D; else 2.
-pub fn participant_state_at(s: &[u8], place: u8) -> Num8
-    ensures { num8_m result ≡ field (code participant_state) s.now place }
-{
-    let f = format::be_u8(s, place);
-    let Num8::Got(b) = f else {
-        return f;
-    };
-    judged(b, place, is_participant_state(b))
 }
 
 const INTEREST_ARMS: bool = MASKS[b'B' as usize]
@@ -341,24 +249,14 @@ const INTEREST_ARMS: bool = MASKS[b'B' as usize]
     & masks::INTEREST
     != 0;
 
-fn is_interest(b: u8) -> bool
+// Whether a byte is a code of the interest flag: B, S, A or N.
+pub fn is_interest(b: u8) -> bool
     ensures { result ≡ member b interest }
 {
     match b {
         b'B' | b'S' | b'A' | b'N' => INTEREST_ARMS,
         _ => legal(b, masks::INTEREST),
     }
-}
-
-// The interest flag at a place: B, S, A or N; else 2.
-pub fn interest_at(s: &[u8], place: u8) -> Num8
-    ensures { num8_m result ≡ field (code interest) s.now place }
-{
-    let f = format::be_u8(s, place);
-    let Num8::Got(b) = f else {
-        return f;
-    };
-    judged(b, place, is_interest(b))
 }
 
 const CROSS_ARMS: bool = MASKS[b'O' as usize]
@@ -369,24 +267,14 @@ const CROSS_ARMS: bool = MASKS[b'O' as usize]
     & masks::CROSS
     != 0;
 
-fn is_cross(b: u8) -> bool
+// Whether a byte is a code of the cross of a trade: O, C, H, I or A.
+pub fn is_cross(b: u8) -> bool
     ensures { result ≡ member b cross }
 {
     match b {
         b'O' | b'C' | b'H' | b'I' | b'A' => CROSS_ARMS,
         _ => legal(b, masks::CROSS),
     }
-}
-
-// The cross of a trade at a place: O, C, H, I or A; else 2.
-pub fn cross_at(s: &[u8], place: u8) -> Num8
-    ensures { num8_m result ≡ field (code cross) s.now place }
-{
-    let f = format::be_u8(s, place);
-    let Num8::Got(b) = f else {
-        return f;
-    };
-    judged(b, place, is_cross(b))
 }
 
 const CATEGORY_ARMS: bool = MASKS[b'Q' as usize]
@@ -401,24 +289,14 @@ const CATEGORY_ARMS: bool = MASKS[b'Q' as usize]
     & masks::CATEGORY
     != 0;
 
-fn is_category(b: u8) -> bool
+// Whether a byte is a code of the market category: one of its codes.
+pub fn is_category(b: u8) -> bool
     ensures { result ≡ member b category }
 {
     match b {
         b'Q' | b'G' | b'S' | b'N' | b'A' | b'P' | b'Z' | b'V' | b' ' => CATEGORY_ARMS,
         _ => legal(b, masks::CATEGORY),
     }
-}
-
-// The market category at a place: one of its codes, else 2.
-pub fn category_at(s: &[u8], place: u8) -> Num8
-    ensures { num8_m result ≡ field (code category) s.now place }
-{
-    let f = format::be_u8(s, place);
-    let Num8::Got(b) = f else {
-        return f;
-    };
-    judged(b, place, is_category(b))
 }
 
 const STATUS_ARMS: bool = MASKS[b'N' as usize]
@@ -435,24 +313,14 @@ const STATUS_ARMS: bool = MASKS[b'N' as usize]
     & masks::STATUS
     != 0;
 
-fn is_status(b: u8) -> bool
+// Whether a byte is a code of the financial status: one of its codes.
+pub fn is_status(b: u8) -> bool
     ensures { result ≡ member b status }
 {
     match b {
         b'N' | b'D' | b'E' | b'Q' | b'S' | b'G' | b'H' | b'J' | b'K' | b'C' | b' ' => STATUS_ARMS,
         _ => legal(b, masks::STATUS),
     }
-}
-
-// The financial status at a place: one of its codes, else 2.
-pub fn status_at(s: &[u8], place: u8) -> Num8
-    ensures { num8_m result ≡ field (code status) s.now place }
-{
-    let f = format::be_u8(s, place);
-    let Num8::Got(b) = f else {
-        return f;
-    };
-    judged(b, place, is_status(b))
 }
 
 const CLASS_ARMS: bool = MASKS[b'A' as usize]
@@ -474,7 +342,8 @@ const CLASS_ARMS: bool = MASKS[b'A' as usize]
     & masks::CLASS
     != 0;
 
-fn is_class(b: u8) -> bool
+// Whether a byte is a code of the issue classification: one of its codes.
+pub fn is_class(b: u8) -> bool
     ensures { result ≡ member b class }
 {
     match b {
@@ -498,21 +367,11 @@ fn is_class(b: u8) -> bool
     }
 }
 
-// The issue classification at a place: one of its codes, else 2.
-pub fn class_at(s: &[u8], place: u8) -> Num8
-    ensures { num8_m result ≡ field (code class) s.now place }
-{
-    let f = format::be_u8(s, place);
-    let Num8::Got(b) = f else {
-        return f;
-    };
-    judged(b, place, is_class(b))
-}
-
 const AUTHENTICITY_ARMS: bool = MASKS[b'P' as usize] & MASKS[b'T' as usize] & masks::AUTHENTICITY
     != 0;
 
-fn is_authenticity(b: u8) -> bool
+// Whether a byte is a code of production or test: P or T.
+pub fn is_authenticity(b: u8) -> bool
     ensures { result ≡ member b authenticity }
 {
     match b {
@@ -521,24 +380,14 @@ fn is_authenticity(b: u8) -> bool
     }
 }
 
-// Production or test at a place: P or T; else 2.
-pub fn authenticity_at(s: &[u8], place: u8) -> Num8
-    ensures { num8_m result ≡ field (code authenticity) s.now place }
-{
-    let f = format::be_u8(s, place);
-    let Num8::Got(b) = f else {
-        return f;
-    };
-    judged(b, place, is_authenticity(b))
-}
-
 const FLAG_ARMS: bool = MASKS[b'Y' as usize]
     & MASKS[b'N' as usize]
     & MASKS[b' ' as usize]
     & masks::FLAG
     != 0;
 
-fn is_flag(b: u8) -> bool
+// Whether a byte is a code of the short sale or IPO flag: Y, N or space.
+pub fn is_flag(b: u8) -> bool
     ensures { result ≡ member b flag }
 {
     match b {
@@ -547,41 +396,20 @@ fn is_flag(b: u8) -> bool
     }
 }
 
-// The short sale or IPO flag at a place: Y, N or space; else 2.
-pub fn flag_at(s: &[u8], place: u8) -> Num8
-    ensures { num8_m result ≡ field (code flag) s.now place }
-{
-    let f = format::be_u8(s, place);
-    let Num8::Got(b) = f else {
-        return f;
-    };
-    judged(b, place, is_flag(b))
-}
-
 const TIER_ARMS: bool = MASKS[b' ' as usize]
     & MASKS[b'1' as usize]
     & MASKS[b'2' as usize]
     & masks::TIER
     != 0;
 
-fn is_tier(b: u8) -> bool
+// Whether a byte is a code of the LULD tier: space, 1 or 2.
+pub fn is_tier(b: u8) -> bool
     ensures { result ≡ member b tier }
 {
     match b {
         b' ' | b'1' | b'2' => TIER_ARMS,
         _ => legal(b, masks::TIER),
     }
-}
-
-// The LULD tier at a place: space, 1 or 2; else 2.
-pub fn tier_at(s: &[u8], place: u8) -> Num8
-    ensures { num8_m result ≡ field (code tier) s.now place }
-{
-    let f = format::be_u8(s, place);
-    let Num8::Got(b) = f else {
-        return f;
-    };
-    judged(b, place, is_tier(b))
 }
 
 const ETP_FLAG_ARMS: bool = MASKS[b'Y' as usize]
@@ -591,24 +419,14 @@ const ETP_FLAG_ARMS: bool = MASKS[b'Y' as usize]
     & masks::ETP_FLAG
     != 0;
 
-fn is_etp_flag(b: u8) -> bool
+// Whether a byte is a code of the ETP flag: Y, N, space or M.
+pub fn is_etp_flag(b: u8) -> bool
     ensures { result ≡ member b etp_flag }
 {
     match b {
         b'Y' | b'N' | b' ' | b'M' => ETP_FLAG_ARMS,
         _ => legal(b, masks::ETP_FLAG),
     }
-}
-
-// The ETP flag at a place: Y, N, space or M; else 2.
-pub fn etp_flag_at(s: &[u8], place: u8) -> Num8
-    ensures { num8_m result ≡ field (code etp_flag) s.now place }
-{
-    let f = format::be_u8(s, place);
-    let Num8::Got(b) = f else {
-        return f;
-    };
-    judged(b, place, is_etp_flag(b))
 }
 
 const EVENT_ARMS: bool = MASKS[b'O' as usize]
@@ -620,7 +438,8 @@ const EVENT_ARMS: bool = MASKS[b'O' as usize]
     & masks::EVENT
     != 0;
 
-fn is_event(b: u8) -> bool
+// Whether a byte is a code of the system event: O, S, Q, M, E or C.
+pub fn is_event(b: u8) -> bool
     ensures { result ≡ member b event }
 {
     match b {
@@ -629,24 +448,14 @@ fn is_event(b: u8) -> bool
     }
 }
 
-// The system event at a place: O, S, Q, M, E or C; else 2.
-pub fn event_at(s: &[u8], place: u8) -> Num8
-    ensures { num8_m result ≡ field (code event) s.now place }
-{
-    let f = format::be_u8(s, place);
-    let Num8::Got(b) = f else {
-        return f;
-    };
-    judged(b, place, is_event(b))
-}
-
 const LEVEL_ARMS: bool = MASKS[b'1' as usize]
     & MASKS[b'2' as usize]
     & MASKS[b'3' as usize]
     & masks::LEVEL
     != 0;
 
-fn is_level(b: u8) -> bool
+// Whether a byte is a code of the level breached: 1, 2 or 3.
+pub fn is_level(b: u8) -> bool
     ensures { result ≡ member b level }
 {
     match b {
@@ -655,24 +464,14 @@ fn is_level(b: u8) -> bool
     }
 }
 
-// The level breached at a place: 1, 2 or 3; else 2.
-pub fn level_at(s: &[u8], place: u8) -> Num8
-    ensures { num8_m result ≡ field (code level) s.now place }
-{
-    let f = format::be_u8(s, place);
-    let Num8::Got(b) = f else {
-        return f;
-    };
-    judged(b, place, is_level(b))
-}
-
 const ACTION_ARMS: bool = MASKS[b'0' as usize]
     & MASKS[b'1' as usize]
     & MASKS[b'2' as usize]
     & masks::ACTION
     != 0;
 
-fn is_action(b: u8) -> bool
+// Whether a byte is a code of the Reg SHO action: 0, 1 or 2.
+pub fn is_action(b: u8) -> bool
     ensures { result ≡ member b action }
 {
     match b {
@@ -681,24 +480,14 @@ fn is_action(b: u8) -> bool
     }
 }
 
-// The Reg SHO action at a place: 0, 1 or 2; else 2.
-pub fn action_at(s: &[u8], place: u8) -> Num8
-    ensures { num8_m result ≡ field (code action) s.now place }
-{
-    let f = format::be_u8(s, place);
-    let Num8::Got(b) = f else {
-        return f;
-    };
-    judged(b, place, is_action(b))
-}
-
 const MARKET_ARMS: bool = MASKS[b'Q' as usize]
     & MASKS[b'B' as usize]
     & MASKS[b'X' as usize]
     & masks::MARKET
     != 0;
 
-fn is_market(b: u8) -> bool
+// Whether a byte is a code of the market code: Q, B or X.
+pub fn is_market(b: u8) -> bool
     ensures { result ≡ member b market }
 {
     match b {
@@ -707,35 +496,14 @@ fn is_market(b: u8) -> bool
     }
 }
 
-// The market code at a place: Q, B or X; else 2.
-pub fn market_at(s: &[u8], place: u8) -> Num8
-    ensures { num8_m result ≡ field (code market) s.now place }
-{
-    let f = format::be_u8(s, place);
-    let Num8::Got(b) = f else {
-        return f;
-    };
-    judged(b, place, is_market(b))
-}
-
 const HALT_ARMS: bool = MASKS[b'H' as usize] & MASKS[b'T' as usize] & masks::HALT != 0;
 
-fn is_halt(b: u8) -> bool
+// Whether a byte is a code of the action of an operational halt: H or T.
+pub fn is_halt(b: u8) -> bool
     ensures { result ≡ member b halt }
 {
     match b {
         b'H' | b'T' => HALT_ARMS,
         _ => legal(b, masks::HALT),
     }
-}
-
-// The action of an operational halt at a place: H or T; else 2.
-pub fn halt_at(s: &[u8], place: u8) -> Num8
-    ensures { num8_m result ≡ field (code halt) s.now place }
-{
-    let f = format::be_u8(s, place);
-    let Num8::Got(b) = f else {
-        return f;
-    };
-    judged(b, place, is_halt(b))
 }

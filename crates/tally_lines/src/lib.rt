@@ -27,10 +27,8 @@ fn lines(count: &[u64], out: &mut [u8]) -> usize
     ensures { Wrote (lines_of count.now 256) out.old 0 out.new result × (result ≤ 5888) }
 {
     let mut at = 0;
-    let mut k = 0;
-    while k < 256 {
-        at = line(k as u8, count[k], out, at);
-        k += 1;
+    for (k, n) in count.iter().enumerate() {
+        at = line(k as u8, *n, out, at);
     }
     at
 }
@@ -40,10 +38,8 @@ fn messages_line(messages: u64, out: &mut [u8], at: usize) -> usize
     requires { at + 30 ≤ length out.old }
     ensures { Wrote (messages_of messages) out.old at out.new result × (result ≤ at + 30) }
 {
-    let a = text::word(b'm', b'e', b's', b's', out, at);
-    let b = text::word(b'a', b'g', b'e', b's', out, a);
-    let c = text::byte(b' ', out, b);
-    text::number(messages, b'\n', out, c)
+    let a = text::bytes(b"messages ", out, at);
+    text::number(messages, b'\n', out, a)
 }
 
 // The line of where the stream stopped.
@@ -51,10 +47,9 @@ fn stopped_line(stop: u8, place: usize, out: &mut [u8], at: usize) -> usize
     requires { at + 50 ≤ length out.old }
     ensures { Wrote (stopped_of stop place) out.old at out.new result }
 {
-    let a = text::word(b's', b't', b'o', b'p', out, at);
-    let b = text::word(b'p', b'e', b'd', b' ', out, a);
-    let c = text::number(stop as u64, b' ', out, b);
-    text::number(place as u64, b'\n', out, c)
+    let a = text::bytes(b"stopped ", out, at);
+    let b = text::number(stop as u64, b' ', out, a);
+    text::number(place as u64, b'\n', out, b)
 }
 
 // The number of a refusal; 0 of any other answer.
@@ -63,10 +58,7 @@ pub fn number_of(answer: Answer) -> u8
 {
     match answer {
         Answer::Refused(number, _) => number,
-        Answer::Message(_) => 0,
-        Answer::Wants => 0,
-        Answer::Ready => 0,
-        Answer::Nothing => 0,
+        _ => 0,
     }
 }
 
@@ -76,10 +68,7 @@ fn place_of(answer: Answer) -> usize
 {
     match answer {
         Answer::Refused(_, place) => place,
-        Answer::Message(_) => 0,
-        Answer::Wants => 0,
-        Answer::Ready => 0,
-        Answer::Nothing => 0,
+        _ => 0,
     }
 }
 
@@ -93,9 +82,7 @@ pub fn tally(count: &[u64], messages: u64, answer: Answer, out: &mut [u8]) -> us
     if count.len() != 256 {
         return 0;
     }
-    let stop = number_of(answer);
-    let place = place_of(answer);
     let a = lines(count, out);
     let b = messages_line(messages, out, a);
-    stopped_line(stop, place, out, b)
+    stopped_line(number_of(answer), place_of(answer), out, b)
 }

@@ -15,24 +15,12 @@ fn tally(rt: &(impl Env + Files), input: Stdin, output: Stdout, error: Stderr) {
     }
 }
 
+// The runs, in order. A twice: c3 a9 in a stock is a letter, c3 as its eighth byte is cut off; and, as each below, a sound message and then the bad one. F: the
+// stock; the mpid. H: the stock; the reason. I, J, K. L: the mpid; the stock. N, P, Q, R, Y.
+const RUNS: u8 = 16;
+
 fn main(rt: HostRuntime) {
-    let input = rt.stdin();
-    let output = rt.stdout();
-    let error = rt.stderr();
-    tally(&rt, input, output, error); // A, A: c3 a9 in a stock is a letter, c3 as its eighth byte is cut off
-    tally(&rt, input, output, error); // A, A: as each below, a sound message and then the bad one
-    tally(&rt, input, output, error); // F: the stock
-    tally(&rt, input, output, error); // F: the mpid
-    tally(&rt, input, output, error); // H: the stock
-    tally(&rt, input, output, error); // H: the reason
-    tally(&rt, input, output, error); // I
-    tally(&rt, input, output, error); // J
-    tally(&rt, input, output, error); // K
-    tally(&rt, input, output, error); // L: the mpid
-    tally(&rt, input, output, error); // L: the stock
-    tally(&rt, input, output, error); // N
-    tally(&rt, input, output, error); // P
-    tally(&rt, input, output, error); // Q
-    tally(&rt, input, output, error); // R
-    tally(&rt, input, output, error); // Y
+    for _ in 0..RUNS {
+        tally(&rt, rt.stdin(), rt.stdout(), rt.stderr());
+    }
 }

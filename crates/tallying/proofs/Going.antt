@@ -9,7 +9,8 @@ use native.Mathlib.Omega.{arith}
 use lib.ListN.{length, take, drop, length-append, length-drop}
 use lib.Seq.{length-take-le, take-add, take_at, take_all, drop_at}
 use Rattle.standard.specs.declared.Brought.{Brought}
-use Rattle.standard.specs.Reads.{Silent}
+use Rattle.standard.specs.Reads.{Silent, bytes_of, has_failed}
+use Rattle.standard.proofs.Failed.{failed-none}
 use Rattle.format.specs.declared.Reading.{Reading}
 use Rattle.records.specs.declared.Message.{Message as Record}
 use Rattle.laws.proofs.Numbers.{number-low}
@@ -173,7 +174,7 @@ module _ {rd : Reading} {c₀ : List ℕ} {s : Stream} {v : Brought} {b d : List
       u = (roomed rd s b).state
 
       abbrev n : ℕ
-      n = x.brought.bytes
+      n = bytes_of x.brought
 
       abbrev p : List ℕ
       p = stood u.end n c
@@ -194,19 +195,19 @@ module _ {rd : Reading} {c₀ : List ℕ} {s : Stream} {v : Brought} {b d : List
       silent : n ≡ 0 → Silent x.brought
       silent z = record { asked = omega (arith, C.reads.room, (room-ready t (length b) a).whole, (room-ready t (length b) a).free); none = z }
 
-      pub fail-ended : x.brought.failed ≡ true → x.step ≡ failed_of u → Ends rd g.came g.messages x.step.answer x.brought
+      pub fail-ended : has_failed x.brought ≡ true → x.step ≡ failed_of u → Ends rd g.came g.messages x.step.answer x.brought
       fail-ended f e =
           let q = roomed-holds rd g.came s b [] g.messages w a (holds at-end) in
           rw (ap (λ (y : Step). y.answer) e ∙ fails u (failed_of u) (failed-is u) q.sound q.clear)
-          (failed (window_at s b) (silent (C.reads.fails f)) f
+          (failed (window_at s b) (silent (failed-none x.brought f)) f
           (last rd g.came g.messages (window_at s b) (stop_at (window_at s b)) (holds at-end).heard (heard-cut rd (window_at s b) (next-waits rd s b w).short)))
 
       -- the bytes counted
       pub total-fed : x.brought.total ≡ min (length (g.came ++ p)) 18446744073709551615
       total-fed = omega (arith, C.reads.total, g.total, length-append g.came p, long-p)
 
-      pub total-failed : x.brought.failed ≡ true → x.brought.total ≡ min (length g.came) 18446744073709551615
-      total-failed f = omega (arith, C.reads.total, C.reads.fails f, g.total)
+      pub total-failed : has_failed x.brought ≡ true → x.brought.total ≡ min (length g.came) 18446744073709551615
+      total-failed f = omega (arith, C.reads.total, failed-none x.brought f, g.total)
 
       -- bytes came
       pub going-fed : x.step ≡ told_of u n → x.step.answer ≡ Ready → Going rd c₀ x.step.state x.brought c d
@@ -230,7 +231,7 @@ module _ {rd : Reading} {c₀ : List ℕ} {s : Stream} {v : Brought} {b d : List
       empty (y ∷ l) h = absurd (omega arith)
 
       -- or they did not
-      pub told-ended : x.brought.failed ≡ false → x.step ≡ told_of u n → (x.step.answer ≡ Ready → ⊥)
+      pub told-ended : has_failed x.brought ≡ false → x.step ≡ told_of u n → (x.step.answer ≡ Ready → ⊥)
           → Ends rd (g.came ++ p) g.messages x.step.answer x.brought
       told-ended f e r =
           let q = roomed-holds rd (g.came ++ p) s b p g.messages w a (holds (g.run p)) in

@@ -1,4 +1,3 @@
-mod Answers
 pub mod Counting
 mod Skimming
 pub mod Going

@@ -7,7 +7,7 @@ use mathlib.Core.List.{List, [], ◌∷◌}
 use native.Mathlib.Omega.{arith}
 use lib.ListN.{length}
 use Rattle.standard.specs.declared.Brought.{Brought}
-use Rattle.standard.specs.Reads.{Silent}
+use Rattle.standard.specs.Reads.{Silent, has_failed}
 use Rattle.format.specs.declared.Reading.{Reading}
 use Rattle.records.specs.declared.Message.{Message as Record}
 use Rattle.stream.specs.declared.Answer.{Answer}
@@ -17,14 +17,14 @@ use Rattle.feeding.specs.declared.Turn.{Turn}
 use Rattle.tallying.specs.Reads.{Ends, judged, ended, failed, full, Tallied}
 
 -- nothing more only behind a read that brought nothing
-at-end : {rd : Reading} {came : List ℕ} {ms : List Record} (a : Answer) (b : Brought) → Ends rd came ms a b → a ≡ Nothing → Silent b × (b.failed ≡ false)
+at-end : {rd : Reading} {came : List ℕ} {ms : List Record} (a : Answer) (b : Brought) → Ends rd came ms a b → a ≡ Nothing → Silent b × (has_failed b ≡ false)
 at-end _ b (judged h l e) z = let q : ◌≡◌ {A = ℕ} 0 1 = cc in absurd (omega arith)
 at-end a b (ended s f e) z = (s, f)
 at-end _ b (failed w s f e) z = let q : ◌≡◌ {A = ℕ} 0 1 = cc in absurd (omega arith)
 at-end _ b (full h f e) z = let q : ◌≡◌ {A = ℕ} 0 1 = cc in absurd (omega arith)
 
 pub nothing-at-end : {rd : Reading} {c d : List ℕ} (r : Turn) → Tallied rd c r d → r.step.answer ≡ Nothing
-    → Silent r.brought × (r.brought.failed ≡ false)
+    → Silent r.brought × (has_failed r.brought ≡ false)
 nothing-at-end r t z = at-end r.step.answer r.brought t.ends z
 
 -- no bytes hold no message, and nothing more

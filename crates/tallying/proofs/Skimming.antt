@@ -1,32 +1,46 @@
 -- A plain message in front is the one that next answers; and what was skimmed goes on from what was taken before.
 -- Assumes nothing.
 use Prim.Native.Nat.{ℕ, ◌+◌, ◌-◌, ◌≤◌, ◌<◌}
-use mathlib.Core.Path.{◌≡◌, refl, sym, subst, ◌∙◌}
-use mathlib.Core.Bool.{true, false}
+use mathlib.Core.Path.{◌≡◌, refl, sym, subst}
+use mathlib.Core.Bool.{false}
 use mathlib.Core.List.{List}
+use mathlib.Core.Logic.{⊎_elim}
 use native.Mathlib.Omega.{arith}
 use borrow.Author.Tests.{le-leb, eq-eqb, ne_eqb}
 use lib.Dec.{eqb}
-use lib.ListN.{length, get_or, set, take, drop}
+use lib.ListN.{length, get_or, set, take, drop, length-take, get_or-eq_default}
+use lib.Seq.{get_or-drop}
+use Rattle.std.proofs.lemmas.List.{get_or-take}
+use Rattle.format.proofs.Tests.{le-or-lt}
+use Rattle.std.specs.Prelude.{Ok}
 use Rattle.format.specs.declared.Reading.{Reading}
 use Rattle.format.proofs.Bytes.{Bytes}
 use Rattle.records.specs.declared.Message.{Message as Record}
-use Rattle.reader.specs.declared.Window.TheVariants.{Message as Accepted}
 use Rattle.reader.specs.Window.{window_of}
 use Rattle.plain.specs.Plain.{Table, plain_of, strictly_of}
 use Rattle.plain.proofs.Accepts.{Front, plain-accepts, strictly-accepts}
 use Rattle.stream.specs.declared.Step.{Step}
+use Rattle.stream.specs.declared.Answer.TheVariants.{Message}
 use Rattle.stream.specs.declared.Stream.{Stream}
 use Rattle.stream.specs.Next.{window_at, taken, next_of}
 use Rattle.stream_laws.proofs.Calls.{next-message}
-use Rattle.tallying.specs.Answers.{is_message, counter_of}
-use Rattle.tallying.specs.Counts.{Counters, Taken, none, more, Counted, Skimmed, on_to, Tightly}
-use Rattle.tallying.proofs.Answers.{message-is}
+use Rattle.tallying.specs.Counts.{Counters, raised, Taken, none, more, Counted, Skimmed, on_to, Tightly}
 use Rattle.tallying.proofs.Counting.{rises, raises, taken-one, again}
 
 -- the window that both skims look at
 abbrev pub window_in : List ℕ → ℕ → ℕ → List ℕ
 window_in b start end = take (end - start) (drop start b)
+
+pub window-bytes : (b : List ℕ) (start end : ℕ) → Bytes b → Bytes (window_in b start end)
+window-bytes b start end h i = ⊎_elim past inside (le-or-lt (end - start) i)
+  where
+    past : end - start ≤ i → get_or (window_in b start end) i 0 < 256
+    past l =
+        let e : get_or (window_in b start end) i 0 ≡ 0 = get_or-eq_default (window_in b start end) 0 (let o : length (take (end - start) (drop start b)) ≤ i = simp length-take (omega arith) in o) in
+        omega (arith, e)
+
+    inside : i < end - start → get_or (window_in b start end) i 0 < 256
+    inside l = rw (get_or-take (end - start) (drop start b) i 0 l, get_or-drop start b i 0) (h (start + i))
 
 -- where a message may be taken
 pub record Ready (b : List ℕ) (start end messages : ℕ) : Type 0 where
@@ -48,7 +62,7 @@ behind s n = record {
 }
 
 accepted-next : (rd : Reading) (s : Stream) (b : List ℕ) (m : Record) (n : ℕ) → Ready b s.start s.end s.messages
-    → window_of rd (window_at s b) ≡ Accepted m n → next_of rd s b ≡ taken s m n
+    → window_of rd (window_at s b) ≡ Ok (m, n) → next_of rd s b ≡ taken s m n
 unfolding next_of
 accepted-next rd s b m n h e =
     simp (eq-eqb _ _ h.whole, le-leb _ _ h.ordered, le-leb _ _ h.inside, e, ne_eqb s.messages 18446744073709551615 (λ i. omega (arith, h.room)))
@@ -109,13 +123,11 @@ pub onward : {rd : Reading} {rows b : List ℕ} {s : Stream} {c : List ℕ} {t :
     → Table rd.strict rows → Skimmed rows b t d u e → Counted rd b s c u e
 onward {rd} p t q = record { taken = joined p.taken (q.taken rd t); counted = q.counted }
 
-pub turned : {rd : Reading} {rows b : List ℕ} {s : Stream} {c : List ℕ} {t : Stream} {d : List ℕ} {u : Stream} {e : List ℕ} (r : Step) {k : ℕ}
-    → Counted rd b s c t d → Table rd.strict rows → Skimmed rows b t d u e → r ≡ next_of rd u b → is_message r.answer ≡ true → k ≡ counter_of r.answer
-    → k < 256 → Counted rd b s c r.state (counts-at e k) × (t.messages < r.state.messages)
-turned {rd} {b = b} {u = u} r p t q n a i h =
-    let m = message-is r.answer a in
-    let j = i ∙ m.tag in
-    (rw j (again (onward p t q) n m.is (omega (arith, j))), omega (arith, rising (q.taken rd t), rises rd b u r m.message n m.is))
+pub turned : {rd : Reading} {rows b : List ℕ} {s : Stream} {c : List ℕ} {t : Stream} {d : List ℕ} {u : Stream} {e : List ℕ} (r : Step) {m : Record}
+    → Counted rd b s c t d → Table rd.strict rows → Skimmed rows b t d u e → r ≡ next_of rd u b → r.answer ≡ Message m → m.tag < 256
+    → Counted rd b s c r.state (raised e m) × (t.messages < r.state.messages)
+turned {rd} {b = b} {u = u} r {m} p t q n a h =
+    (again (onward p t q) n a h, omega (arith, rising (q.taken rd t), rises rd b u r m n a))
 
 pub tightly-on : {rd : Reading} {b : List ℕ} {s : Stream} {c : List ℕ} {t : Stream} {d : List ℕ} {start messages : ℕ} {u : Stream} {e : List ℕ}
     → Counted rd b s c t d → Tightly b t.start t.end t.messages d start messages e → u ≡ on_to t start messages → Counted rd b s c u e

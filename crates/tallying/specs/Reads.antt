@@ -3,7 +3,7 @@
 -- Assumes nothing.
 use Rattle.std.specs.Prelude.{ℕ, ◌≤◌, min, ◌≡◌, true, false, List, [], ◌∷◌, length}
 use Rattle.standard.specs.declared.Brought.{Brought}
-use Rattle.standard.specs.Reads.{Silent}
+use Rattle.standard.specs.Reads.{Silent, has_failed}
 use Rattle.format.specs.declared.Reading.{Reading}
 use Rattle.records.specs.declared.Message.{Message as Record}
 use Rattle.stream.specs.declared.Answer.{Answer}
@@ -25,10 +25,10 @@ pub data Ends (rd : Reading) (came : List ℕ) (ms : List Record) : Answer → B
   -- with a refusal of a message
   judged : {n p : ℕ} {b : Brought} → 1 ≤ n → n ≤ 5 → heard_of rd came ≡ record { messages = ms; stop = Refused n p } → Ends rd came ms (Refused n p) b
   -- with the input's end, that is a read that brought nothing
-  ended : {a : Answer} {b : Brought} → Silent b → b.failed ≡ false → heard_of rd came ≡ record { messages = ms; stop = a }
+  ended : {a : Answer} {b : Brought} → Silent b → has_failed b ≡ false → heard_of rd came ≡ record { messages = ms; stop = a }
       → Ends rd came ms a b
   -- with a failed read: behind the messages of what had come
-  failed : {b : Brought} (w : List ℕ) → Silent b → b.failed ≡ true → heard_of rd came ≡ record { messages = ms; stop = stop_at w }
+  failed : {b : Brought} (w : List ℕ) → Silent b → has_failed b ≡ true → heard_of rd came ≡ record { messages = ms; stop = stop_at w }
       → Ends rd came ms (Refused 11 0) b
   -- with 33: the bytes, the messages or the read calls can no more be counted
   full : {b : Brought} (h : Heard) → (Fits came → ⊥) → heard_of rd came ≡ before ms h → Ends rd came ms (Refused 33 0) b

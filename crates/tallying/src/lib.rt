@@ -2,13 +2,12 @@
 // `tally` and the three programs that only test it on other inputs are the same code.
 #![tactic(auto)]
 
-ghost use Rattle.std.specs.Prelude.{◌≡◌, false, ◌+◌, ◌≤◌, length};
+ghost use Rattle.std.specs.Prelude.{◌≡◌, false, ◌≤◌, length};
 ghost use Rattle.text.specs.Decimal.{Wrote};
-ghost use Rattle.words.specs.Words.{reading_of, ending_by};
+ghost use Rattle.words.specs.Words.{reading_of, ending_by, stop_by};
 ghost use Rattle.stream.specs.Meaning.{number_of};
 ghost use Rattle.tally_lines.specs.Lines.{tally_of};
 ghost use Rattle.plain.specs.Plain.{Table};
-ghost use Rattle.tallying.specs.Answers.{is_message, is_wants, counter_of};
 ghost use Rattle.tallying.specs.Counts.{Counters, on_to, Skimmed, Tightly, Drained};
 ghost use Rattle.tallying.specs.Reads.{Tallied, Finished};
 
@@ -17,6 +16,7 @@ mod printed;
 use feeding::Turn;
 use format::Reading;
 pub use printed::Tally;
+use standard::Brought;
 use std::io::{Stderr, Stdin, Stdout};
 use std::rt::{Env, Files};
 use stream::{Answer, Step, Stream};
@@ -24,40 +24,28 @@ use words::{Ending, Words};
 
 // Takes and counts the plain messages in front, by a reading's table, with no jump by tag or side: such jumps are most of the time that `next_of` takes.
 // By a strict reading's table there are none.
-fn skim(s0: Stream, b: &[u8], rows: &[u64; 256], count: &mut [u64]) -> Stream
-    requires { Counters count.old s0.messages × (length b.now ≡ 8192) }
-    ensures { Skimmed rows.now b.now s0 count.old result count.new }
+fn skim(mut s: Stream, b: &[u8; 8192], rows: &[u64; 256], count: &mut [u64; 256]) -> Stream
+    requires { Counters count.old s.messages }
+    ensures { Skimmed rows.now b.now s count.old result count.new }
 {
-    let mut s = s0;
     loop {
-        let start = s.start;
-        let end = s.end;
-        let bytes_read = s.bytes_read;
-        let read_calls = s.read_calls;
-        let messages = s.messages;
-        if start > end {
+        if !s.in_bounds() {
             return s;
         }
-        if end > 8192 {
-            return s;
-        }
-        let w = &b[start..end];
-        let n = plain::plain(w, rows);
+        let window = &b[s.start..s.end];
+        let n = plain::plain(window, rows);
         if n == 0 {
             return s;
         }
-        if messages >= 18446744073709551615 {
+        let Some(messages) = s.messages.checked_add(1) else {
             return s;
-        }
-        let k = w[2] as usize;
-        count[k] = count[k] + 1;
+        };
+        count[usize::from(window[2])] += 1;
         s = Stream {
-            start: start + n,
-            end,
-            bytes_read,
-            read_calls,
-            messages: messages + 1,
+            start: s.start + n,
+            messages,
             error: false,
+            ..s
         };
     }
 }
@@ -70,117 +58,63 @@ struct Front {
 }
 
 // The same for a strict reading, by the ordinary table: the messages that a strict reading takes, too. It is called from two places, so that it is
-// compiled by itself, and by numbers alone, so that they stay in registers: in `skim` the two tests more would slow the ordinary reading.
+// compiled by itself, and by numbers alone, so that they stay in registers: in `skim` the two tests more would slow the ordinary reading. So the two are no
+// instances of one function, and what they promise differs: that of `skim` holds of the readings whose table it is lent, this one's of every reading.
 fn skim_strictly(
-    b: &[u8],
+    b: &[u8; 8192],
     rows: &[u64; 256],
-    count: &mut [u64],
-    start0: usize,
+    count: &mut [u64; 256],
+    mut start: usize,
     end: usize,
-    messages0: u64,
+    mut messages: u64,
 ) -> Front
-    requires { Counters count.old messages0 × (length b.now ≡ 8192) × Table false rows.now }
-    ensures { Tightly b.now start0 end messages0 count.old result.start result.messages count.new }
+    requires counted { Counters count.old messages }
+    requires table { Table false rows.now }
+    ensures { Tightly b.now start end messages count.old result.start result.messages count.new }
 {
-    let mut start = start0;
-    let mut messages = messages0;
     loop {
-        if start > end {
+        if start > end || end > 8192 {
             return Front { start, messages };
         }
-        if end > 8192 {
+        let window = &b[start..end];
+        let n = plain::strictly(window, rows);
+        if n == 0 || messages == u64::MAX {
             return Front { start, messages };
         }
-        let w = &b[start..end];
-        let n = plain::strictly(w, rows);
-        if n == 0 {
-            return Front { start, messages };
-        }
-        if messages >= 18446744073709551615 {
-            return Front { start, messages };
-        }
-        let k = w[2] as usize;
-        count[k] = count[k] + 1;
-        start = start + n;
-        messages = messages + 1;
+        count[usize::from(window[2])] += 1;
+        start += n;
+        messages += 1;
     }
 }
 
 // The state behind the messages that a skim took: the first of them clears the mark.
+#[tactic(auto, using(std::proofs::lemmas::Bool::Decides::nat_tests))]
 fn on(s: Stream, f: Front) -> Stream
     ensures { result ≡ on_to s f.start f.messages }
 {
-    let error = if f.messages == s.messages {
-        s.error
-    } else {
-        false
-    };
     Stream {
         start: f.start,
-        end: s.end,
-        bytes_read: s.bytes_read,
-        read_calls: s.read_calls,
         messages: f.messages,
-        error,
-    }
-}
-
-// Whether the window wants bytes.
-fn wants(s: Step) -> bool
-    ensures { result ≡ is_wants s.answer }
-{
-    let answer = s.answer;
-    match answer {
-        Answer::Message(_) => false,
-        Answer::Wants => true,
-        Answer::Ready => false,
-        Answer::Nothing => false,
-        Answer::Refused(_, _) => false,
-    }
-}
-
-// Whether it is a message.
-fn message(s: Step) -> bool
-    ensures { result ≡ is_message s.answer }
-{
-    let answer = s.answer;
-    match answer {
-        Answer::Message(_) => true,
-        Answer::Wants => false,
-        Answer::Ready => false,
-        Answer::Nothing => false,
-        Answer::Refused(_, _) => false,
-    }
-}
-
-// The counter that a message raises.
-fn counter(s: Step) -> u8
-    ensures { result ≡ counter_of s.answer }
-{
-    let answer = s.answer;
-    match answer {
-        Answer::Message(message) => message.tag,
-        Answer::Wants => 0,
-        Answer::Ready => 0,
-        Answer::Nothing => 0,
-        Answer::Refused(_, _) => 0,
+        error: f.messages == s.messages && s.error,
+        ..s
     }
 }
 
 // Takes and counts the window's messages, the plain ones by a skim, to the first answer that is none. It is lent the reading's table and the ordinary one.
 // The loop has this one way out, so that it stays small.
 fn drain(
-    s0: Stream,
-    b: &[u8],
+    mut s: Stream,
+    b: &[u8; 8192],
     rows: &[u64; 256],
     tight: &[u64; 256],
-    count: &mut [u64],
+    count: &mut [u64; 256],
     reading: Reading,
 ) -> Step
-    requires { Counters count.old s0.messages × (length b.now ≡ 8192) × Table reading.strict rows.now × Table false tight.now }
-    ensures { Drained reading b.now s0 count.old result count.new }
+    requires counted { Counters count.old s.messages }
+    requires table { Table reading.strict rows.now }
+    requires ordinary { Table false tight.now }
+    ensures { Drained reading b.now s count.old result count.new }
 {
-    let mut s = s0;
     let strict = reading.strict;
     if strict {
         let f = skim_strictly(b, tight, count, s.start, s.end, s.messages);
@@ -189,11 +123,10 @@ fn drain(
     loop {
         let t = skim(s, b, rows, count);
         let step = stream::next_of(t, b, reading);
-        if !message(step) {
+        let Answer::Message(message) = step.answer else {
             return step;
-        }
-        let k = counter(step) as usize;
-        count[k] = count[k] + 1;
+        };
+        count[usize::from(message.tag)] += 1;
         s = step.state;
         if strict {
             let f = skim_strictly(b, tight, count, s.start, s.end, s.messages);
@@ -203,7 +136,7 @@ fn drain(
 }
 
 // Drains the window by a reading and reads, to the first answer that stops.
-fn run(input: Stdin, count: &mut [u64], reading: Reading) -> Turn
+fn run(input: Stdin, count: &mut [u64; 256], reading: Reading) -> Turn
     requires { Counters count.old 0 }
     ensures { Tallied reading count.old result count.new }
 {
@@ -211,12 +144,12 @@ fn run(input: Stdin, count: &mut [u64], reading: Reading) -> Turn
     let rows = plain::rows(reading.strict);
     let tight = plain::rows(false);
     let mut s = stream::fresh();
-    let mut b = standard::unread();
+    let mut b = Brought::unread();
     loop {
         let step = drain(s, &buf, &rows, &tight, count, reading);
-        if !wants(step) {
+        let Answer::Wants = step.answer else {
             return Turn { step, brought: b };
-        }
+        };
         let turn = feeding::feed(input, step.state, b, &mut buf);
         if !feeding::ready(turn.step) {
             return turn;
@@ -227,7 +160,7 @@ fn run(input: Stdin, count: &mut [u64], reading: Reading) -> Turn
 }
 
 // The lines of the counters: they are put, since there are 256 and the buffer has room.
-fn put_tally(count: &[u64], messages: u64, answer: Answer, out: &mut [u8]) -> usize
+fn put_tally(count: &[u64; 256], messages: u64, answer: Answer, out: &mut [u8]) -> usize
     requires { Counters count.now messages × (5968 ≤ length out.old) }
     ensures { Wrote (tally_of count.now messages answer) out.old 0 out.new result }
 {
@@ -235,18 +168,20 @@ fn put_tally(count: &[u64], messages: u64, answer: Answer, out: &mut [u8]) -> us
 }
 
 // Says where the run stopped on standard error, and the ending to who asked for it.
-fn report(rt: &impl Files, error: Stderr, words: Words, last: Step, number: u8, t: Tally, o: Ending)
-    requires number_value { number ≡ number_of last.answer }
+fn report(
+    rt: &impl Files,
+    error: Stderr,
+    words: Words,
+    last: Step,
+    number: Option<u8>,
+    t: Tally,
+    o: Ending,
+)
+    requires number_value { number ≡ stop_by (number_of last.answer) }
     requires o_value { o ≡ ending_by number t.written.taken }
 {
-    let state = last.state;
-    words::stopped(
-        error,
-        b"tally",
-        number,
-        stream::consumed(state),
-        printed::taken(t),
-    );
+    let consumed = stream::consumed(last.state);
+    words::stopped(error, b"tally", number, consumed, t.taken());
     words::say(rt, words, o);
 }
 
@@ -261,17 +196,15 @@ pub fn print_tally(
 ) -> Tally
     ensures { Finished (reading_of words) result }
 {
-    let reading = words::reading(words);
+    let reading = Reading::from(words);
     let mut count = [0u64; 256];
     let mut out = [0u8; 8192];
     let last = run(input, &mut count, reading);
     let step = last.step;
-    let state = step.state;
-    let answer = step.answer;
-    let n = put_tally(&count, state.messages, answer, &mut out);
+    let n = put_tally(&count, step.state.messages, step.answer, &mut out);
     let tally = printed::write(output, &count, last, &out[..n], reading);
-    let number = tally_lines::number_of(answer);
-    let taken = printed::taken(tally);
+    let number = words::stop_by(tally_lines::number_of(step.answer));
+    let taken = tally.taken();
     report(
         rt,
         error,
@@ -289,8 +222,7 @@ pub fn print_tally(
 pub fn start(rt: &(impl Env + Files), input: Stdin, output: Stdout, error: Stderr) -> usize {
     let w = words::asked(rt, false);
     if w.known {
-        let tally = print_tally(rt, input, output, error, w);
-        return printed::last_read(tally);
+        return print_tally(rt, input, output, error, w).last_read();
     }
     words::misuse(
         rt,

@@ -1,5 +1,6 @@
 // The write of the lines. It is told by a value that nothing else makes, since its fields are private.
 ghost use Rattle.std.specs.Prelude.{◌≡◌, length};
+ghost use Rattle.standard.specs.Reads.{bytes_of};
 ghost use Rattle.tallying.specs.Reads.{Printed};
 
 use feeding::Turn;
@@ -17,7 +18,7 @@ pub struct Tally {
 // Writes the lines of the counters that a run by a reading left.
 pub(super) fn write(
     output: Stdout,
-    count: &[u64],
+    count: &[u64; 256],
     last: Turn,
     text: &[u8],
     reading: Reading,
@@ -26,23 +27,24 @@ pub(super) fn write(
     ensures brought_value { result.brought ≡ last.brought }
     ensures bytes_value { result.written.bytes ≡ length text.now }
 {
-    let written = standard::write(output, text);
-    let brought = last.brought;
-    Tally { brought, written }
+    Tally {
+        brought: last.brought,
+        written: standard::write(output, text),
+    }
 }
 
-// Whether the write was taken.
-pub(super) fn taken(t: Tally) -> bool
-    ensures { result ≡ t.written.taken }
-{
-    let w = t.written;
-    standard::taken(w)
-}
+impl Tally {
+    // Whether the write was taken.
+    pub(super) fn taken(self) -> bool
+        ensures { result ≡ self.written.taken }
+    {
+        self.written.taken()
+    }
 
-// How many bytes the last read brought.
-pub(super) fn last_read(t: Tally) -> usize
-    ensures { result ≡ t.brought.bytes }
-{
-    let b = t.brought;
-    standard::bytes(b)
+    // How many bytes the last read brought.
+    pub(super) fn last_read(self) -> usize
+        ensures { result ≡ bytes_of self.brought }
+    {
+        self.brought.count()
+    }
 }

@@ -2,22 +2,15 @@
 // place behind it.
 #![tactic(auto)]
 
-ghost use Rattle.std.specs.Prelude.{◌+◌, ◌≤◌, ◌<◌, [], ◌∷◌, ◌≡◌, length};
+ghost use Rattle.std.specs.Prelude.{◌+◌, ◌≤◌, ◌<◌, [], ◌∷◌, ◌↔◌, length, IsTrue};
 ghost use Rattle.text.specs.Decimal.{one_of, two_of, four_of, eight_of, decimal_of, behind, Wrote, Puts};
-
-fn as_byte(x: u64) -> u8
-    requires { x ≤ 255 }
-    ensures { result ≡ x }
-{
-    x as u8
-}
 
 // One digit.
 fn one(n: u64, out: &mut [u8], at: usize) -> usize
     requires { (n ≤ 9) × (at + 1 ≤ length out.old) }
     ensures { Wrote (one_of n) out.old at out.new result }
 {
-    out[at] = as_byte(48 + n);
+    out[at] = (48 + n) as u8;
     at + 1
 }
 
@@ -27,12 +20,12 @@ fn two(n: u64, out: &mut [u8], at: usize) -> usize
     ensures { Wrote (two_of n) out.old at out.new result }
 {
     let pair = 12336 + n % 10 * 256 + n / 10;
-    out[at] = as_byte(pair % 256);
-    out[at + 1] = as_byte(pair / 256);
+    out[at] = (pair % 256) as u8;
+    out[at + 1] = (pair / 256) as u8;
     at + 2
 }
 
-// Four digits.
+// Four digits. Two of `two`, as `eight` is two of this: no const parameter can be half of another, and a loop over the digits is slower.
 fn four(n: u64, out: &mut [u8], at: usize) -> usize
     requires { (n ≤ 9999) × (at + 4 ≤ length out.old) }
     ensures { Wrote (four_of n) out.old at out.new result }
@@ -114,15 +107,18 @@ fn digits(n: u64, out: &mut [u8], at: usize) -> usize
     long(n, out, at)
 }
 
+// Whether the buffer has n bytes from a place on.
+fn has_room(n: usize, out: &[u8], at: usize) -> bool
+    ensures { IsTrue result ↔ at + n ≤ length out.now }
+{
+    n <= out.len() && at <= out.len() - n
+}
+
 // A number in decimal: at most 20 bytes.
 pub fn decimal(n: u64, out: &mut [u8], at: usize) -> usize
     ensures { Puts 20 (decimal_of n) out.old at out.new result }
 {
-    let len = out.len();
-    if len < 20 {
-        return at;
-    }
-    if len - 20 < at {
+    if !has_room(20, out, at) {
         return at;
     }
     digits(n, out, at)
@@ -132,11 +128,7 @@ pub fn decimal(n: u64, out: &mut [u8], at: usize) -> usize
 pub fn number(n: u64, mark: u8, out: &mut [u8], at: usize) -> usize
     ensures { Puts 21 (behind n mark) out.old at out.new result }
 {
-    let len = out.len();
-    if len < 21 {
-        return at;
-    }
-    if len - 21 < at {
+    if !has_room(21, out, at) {
         return at;
     }
     let next = digits(n, out, at);
@@ -155,20 +147,14 @@ pub fn byte(b: u8, out: &mut [u8], at: usize) -> usize
     at + 1
 }
 
-// Four bytes.
-pub fn word(a: u8, b: u8, c: u8, d: u8, out: &mut [u8], at: usize) -> usize
-    ensures { Puts 4 (a ∷ b ∷ c ∷ d ∷ []) out.old at out.new result }
+// Some bytes.
+pub fn bytes(text: &[u8], out: &mut [u8], at: usize) -> usize
+    ensures { Puts (length text.now) text.now out.old at out.new result }
 {
-    let len = out.len();
-    if len < 4 {
+    if !has_room(text.len(), out, at) {
         return at;
     }
-    if len - 4 < at {
-        return at;
-    }
-    out[at] = a;
-    out[at + 1] = b;
-    out[at + 2] = c;
-    out[at + 3] = d;
-    at + 4
+    let next = at + text.len();
+    out[at..next].copy_from_slice(text);
+    next
 }

@@ -9,6 +9,7 @@ use Prim.Native.Nat.{ℕ, ◌+◌, ◌^◌, ◌<◌}
 use lib.Dec.{eqb, ltb, leb}
 use lib.ListN.{length, drop}
 use borrow.Author.Tests.{eqb-true, ltb-true}
+use Rattle.std.specs.Prelude.{Ok, Err}
 use Rattle.format.specs.Layout.{Kind, widths, accepted, read}
 use Rattle.format.specs.Rows.{rows, rows_in, Found, found, none, find, fields_in, size_in, size_of, size_by, under, header, message, window}
 use Rattle.format.specs.Strict.{ordinary}
@@ -20,16 +21,15 @@ use Rattle.pen.specs.Encode.{write, layout, Sized}
 use Rattle.pen.proofs.Puts.{length-write}
 use Rattle.records.specs.declared.Message.{Message}
 use Rattle.records.specs.Values.{values}
-use Rattle.reader.specs.declared.Window.TheVariants.{Message as Accepted}
 use Rattle.reader.specs.Window.{message_values, window_of}
 use Rattle.reader.proofs.Back.{exactly}
-use Rattle.writer.specs.declared.Written.TheVariants.{Done, Refused}
+use Rattle.writer.specs.declared.WriteError.TheVariants.{Kind as Kinds, Time, Text, Intraday, Room}
 use Rattle.writer.specs.Writing.{tag_of, tag_fine, fields_of, texts_of, intraday, head_of, encode, written_of, buffer_after, FieldsFit}
 use Rattle.writer.proofs.Says.{body-size}
 use Rattle.trips.proofs.Fields.{reads-write}
 use Rattle.trips.proofs.Legal.{codes, whole}
 
--- what an answer Done says
+-- what an answer Ok says
 record Accepts (rd : Reading) (m : Message) (n : ℕ) : Type 0 where
   pub agrees : m.tag ≡ tag_of m.body
   pub has : 0 < size_by rd m.tag
@@ -38,7 +38,7 @@ record Accepts (rd : Reading) (m : Message) (n : ℕ) : Type 0 where
   pub size : 2 + size_of m.tag ≡ n
 
 passed : (a b c d e : Bool) (k n : ℕ)
-    → cond a (cond b (cond c (cond d (Refused 43) (cond e (Done k) (Refused 44))) (Refused 42)) (Refused 41)) (Refused 40) ≡ Done n
+    → cond a (cond b (cond c (cond d (Err Intraday) (cond e (Ok k) (Err Room))) (Err Text)) (Err Time)) (Err Kinds) ≡ Ok n
     → (a ≡ true) × (c ≡ true) × (d ≡ false) × (k ≡ n)
 passed true true true false true k n q = (refl, refl, refl, cc)
 passed true true true false false k n q = let z : ◌≡◌ {A = ℕ} 0 1 = cc in absurd (omega arith)
@@ -47,7 +47,7 @@ passed true true false d e k n q = let z : ◌≡◌ {A = ℕ} 0 1 = cc in absur
 passed true false c d e k n q = let z : ◌≡◌ {A = ℕ} 0 1 = cc in absurd (omega arith)
 passed false b c d e k n q = let z : ◌≡◌ {A = ℕ} 0 1 = cc in absurd (omega arith)
 
-accepts : (rd : Reading) (m : Message) (room n : ℕ) → written_of rd m room ≡ Done n → Accepts rd m n
+accepts : (rd : Reading) (m : Message) (room n : ℕ) → written_of rd m room ≡ Ok n → Accepts rd m n
 unfolding written_of
 accepts rd m room n e =
     let p = passed (tag_fine rd m) (ltb m.timestamp (2 ^ 48)) (texts_of (values m.body)) (intraday (values m.body))
@@ -113,9 +113,9 @@ module _ (rd : Reading) (m : Message) (n : ℕ) (a : Accepts rd m n) (h : Sized 
       ap (λ x. read header x 0 [] (message (ordinary rd) x)) e ∙ g ∙ k ∙ u ∙ r ∙ ap (λ x. accepted x (13 + widths (layout t))) w ∙ ap (accepted (v ++ values m.body)) o
 
 -- reading what was written gives the record, and consumes 2 + size: the written bytes
-pub read_back : (rd : Reading) (m : Message) (s : List ℕ) (n : ℕ) → written_of rd m (length s) ≡ Done n → FieldsFit (Done n) m
-    → (window_of (ordinary rd) (buffer_after (Done n) m s) ≡ Accepted m n) × (n ≡ 2 + size_of m.tag)
+pub read_back : (rd : Reading) (m : Message) (s : List ℕ) (n : ℕ) → written_of rd m (length s) ≡ Ok n → FieldsFit (Ok n) m
+    → (window_of (ordinary rd) (buffer_after (Ok n) m s) ≡ Ok (m, n)) × (n ≡ 2 + size_of m.tag)
 unfolding buffer_after FieldsFit
 read_back rd m s n e f =
     let a = accepts rd m (length s) n e in
-    (sym (exactly (ordinary rd) (encode m ++ drop n s) (Accepted m n) (sym (window-encode rd m n a f.0 f.1 (drop n s)))), sym a.size)
+    (sym (exactly (ordinary rd) (encode m ++ drop n s) (Ok (m, n)) (sym (window-encode rd m n a f.0 f.1 (drop n s)))), sym a.size)

@@ -73,7 +73,7 @@ reads-write (k ∷ ks) (v ∷ vs) n s t c p q =
     let a : p ++ ((d ++ write ks vs) ++ q) ≡ p ++ (d ++ z) = ap (λ x. p ++ x) (append_assoc d (write ks vs) q) in
     let m : length (p ++ d) ≡ length p + width k = length-append p d ∙ ap (λ m. length p + m) (length_digits (width k) v) in
     let g : Reads (p ++ (d ++ z)) ks (length (p ++ d)) vs = subst (λ x. Reads x ks (length (p ++ d)) vs) (append_assoc p d z) r in
-    subst (λ x. Reads x (k ∷ ks) (length p) (v ∷ vs)) (sym a) (f ⨾ subst (λ x. Reads (p ++ (d ++ z)) ks x vs) m g)
+    subst (λ x. Reads x (k ∷ ks) (length p) (v ∷ vs)) (sym a) (sym f ⨾ subst (λ x. Reads (p ++ (d ++ z)) ks x vs) m g)
 
 -- the bytes of the number of w bytes
 pub digits-be : (s : List ℕ) (at w : ℕ) → Bytes s → at + w ≤ length s → digits w (be (part s at w)) ≡ part s at w
@@ -116,7 +116,7 @@ pub took-row : {s : List ℕ} {ks : List Kind} {at : ℕ} {vs : List ℕ} → Re
 took-row end b = (refl, refl, refl)
 took-row {s} (◌⨾◌ {k = k} {ks = ks} {at = at} {v = v} {vs = vs} e r) b =
     let bs : List ℕ = part s at (width k) in
-    let f = field-fine k s at e in
+    let f = field-fine k s at (sym e) in
     let t : Took k bs v = took k bs v (digits-be s at (width k) b f.0) f.1 in
     let g = took-row r b in (
       ap (λ x. x ++ write ks vs) t.bytes ∙ ap (λ x. bs ++ x) g.0 ∙ sym (part-split s at (width k) (widths ks)),

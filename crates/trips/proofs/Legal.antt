@@ -17,8 +17,7 @@ use Rattle.pen.specs.Encode.{layout}
 use Rattle.codes.specs.Names.{name_of, event_byte, event_names, event_from, category_byte, category_names, category_from, status_byte, status_names, status_from, class_byte, class_names, class_from, tier_byte, tier_names, tier_from, maker_mode_byte, maker_mode_names, maker_mode_from, participant_state_byte, participant_state_names, participant_state_from, action_byte, action_names, action_from, trading_state_byte, trading_state_names, trading_state_from, side_byte, side_names, side_from, direction_byte, direction_names, direction_from, cross_byte, cross_names, cross_from, qualifier_byte, qualifier_names, qualifier_from, level_byte, level_names, level_from, market_byte, market_names, market_from, halt_byte, halt_names, halt_from, interest_byte, interest_names, interest_from, flag_byte, flag_names, flag_from, etp_flag_byte, etp_flag_names, etp_flag_from, subtype_byte, subtype_names, subtype_from, yes_no_byte, authenticity_byte}
 use Rattle.codes.specs.declared.trade.CrossType.{CrossType}
 use Rattle.codes.proofs.Back.{pass, all_pass, event-back, category-back, status-back, class_back, tier-back, maker_mode-back, participant_state-back, action-back, trading_state-back, side-back, direction-back, cross-back, qualifier-back, level-back, market-back, halt-back, interest-back, flag-back, etp_flag-back, subtype-back}
-use Rattle.records.specs.declared.Mpid.{Mpid}
-use Rattle.records.specs.declared.Mpid.TheVariants.{Absent, Present}
+use Rattle.std.proofs.Common.{Option, Some, None}
 use Rattle.records.specs.declared.AddOrder.{AddOrder}
 use Rattle.records.specs.declared.Body.{Body}
 use Rattle.records.specs.declared.Body.TheVariants as Body·
@@ -138,10 +137,10 @@ not-intraday v h = go (eqb v 'I') refl
     go true e = absurd (false≢true (subst (λ n. member n imbalance_cross ≡ true) (eqb-true v 'I' e) h))
     go false e = refl
 
-order-codes : (a : AddOrder) (p : Mpid) → codes_fine (layout (get_or (order_values a p) 0 0)) (drop 1 (order_values a p)) ≡ true
+order-codes : (a : AddOrder) (p : Option ℕ) → codes_fine (layout (get_or (order_values a p) 0 0)) (drop 1 (order_values a p)) ≡ true
 unfolding layout
-order-codes a Absent = rw (side-legal a.side)
-order-codes a (Present v) = rw (side-legal a.side)
+order-codes a None = rw (side-legal a.side)
+order-codes a (Some v) = rw (side-legal a.side)
 
 -- a body that is no imbalance record with the cross Intraday has legal codes
 pub codes : (b : Body) → intraday (values b) ≡ false → codes_fine (layout (tag_of b)) (fields_of b) ≡ true

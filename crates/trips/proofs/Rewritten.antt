@@ -8,6 +8,7 @@ use native.Mathlib.Omega.{arith}
 use Prim.Native.Nat.{ℕ, ◌+◌, ◌^◌, ◌≤◌, ◌<◌}
 use lib.ListN.{length, get_or, drop, take, length-take}
 use lib.Seq.{drop-append_seam, take_at, take-take}
+use Rattle.std.specs.Prelude.{Ok}
 use Rattle.format.specs.Layout.{time, widths, be, part, accepted, judge_by}
 use Rattle.format.specs.Rows.{rows, rows_in, Found, found, none, find, fields_in, size_in, under, header, size_of, size_by, body_in, window}
 use Rattle.format.specs.declared.Reading.{Reading}
@@ -24,9 +25,7 @@ use Rattle.pen.specs.Encode.{digits, write, layout}
 use Rattle.pen.proofs.Digits.{length_digits}
 use Rattle.records.specs.declared.Message.{Message}
 use Rattle.records.specs.Values.{values}
-use Rattle.reader.specs.declared.Window.TheVariants.{Message as Accepted}
 use Rattle.reader.specs.Window.{message_values, window_m}
-use Rattle.writer.specs.declared.Written.TheVariants.{Done}
 use Rattle.writer.specs.Writing.{tag_of, fields_of, texts_of, head_of, encode, written_of, buffer_after}
 use Rattle.writer.proofs.Says.{body-size, says-done}
 use Rattle.trips.specs.Trips.{Regular}
@@ -87,10 +86,10 @@ opened rd s m n e =
 head-reads : (s : List ℕ) → 13 ≤ length s → Reads s (drop 1 header) 2 (get_or s 2 0 ∷ be (part s 3 2) ∷ be (part s 5 2) ∷ be (part s 7 6) ∷ [])
 unfolding judge_by
 head-reads s h =
-    sym (field-num 1 s 2 (omega arith) (sym (be-one s 2 (omega arith))))
-    ⨾ sym (field-num 2 s 3 (omega arith) refl)
-    ⨾ sym (field-num 2 s 5 (omega arith) refl)
-    ⨾ field-judged time s 7 (omega arith)
+    field-num 1 s 2 (omega arith) (sym (be-one s 2 (omega arith)))
+    ⨾ field-num 2 s 3 (omega arith) refl
+    ⨾ field-num 2 s 5 (omega arith) refl
+    ⨾ sym (field-judged time s 7 (omega arith))
     ⨾ end
 
 head_bytes : (rd : Reading) (s : List ℕ) (m : Message) → Bytes s → Opened rd s m → write (drop 1 header) (drop 1 (head_of m)) ≡ part s 2 11
@@ -98,8 +97,8 @@ head_bytes rd s m b o =
     rw (o.tag, o.locate, o.tracking, o.stamp) (took-row (head-reads s o.long) b).0
 
 -- what was read is written where the buffer holds it: the size, and behind it the bytes that were read behind the length
-written-again : (rd : Reading) (s : List ℕ) (m : Message) (n room : ℕ) → Bytes s → window_m (Accepted m n) ≡ window rd s → n ≤ room
-    → (written_of rd m room ≡ Done n) × (encode m ≡ digits 2 (size_of m.tag) ++ part s 2 (size_of m.tag))
+written-again : (rd : Reading) (s : List ℕ) (m : Message) (n room : ℕ) → Bytes s → window_m (Ok (m, n)) ≡ window rd s → n ≤ room
+    → (written_of rd m room ≡ Ok n) × (encode m ≡ digits 2 (size_of m.tag) ++ part s 2 (size_of m.tag))
 unfolding encode texts_of
 written-again rd s m n room b e l =
     let o = opened rd s m n (sym e) in
@@ -111,7 +110,7 @@ written-again rd s m n room b e l =
     let d : List ℕ = digits 2 (size_of m.tag) in
     let f : List ℕ = write (layout m.tag) (fields_of m.body) in
     let k : f ≡ part s 13 z = rw o.agrees t.0 in (
-      sym (says-done rd m room o.agrees o.has (omega (arith, o.stamp)) t.1 (no-intraday (values m.body) t.2) (omega arith)) ∙ ap Done (sym c),
+      sym (says-done rd m room o.agrees o.has (omega (arith, o.stamp)) t.1 (no-intraday (values m.body) t.2) (omega arith)) ∙ ap Ok (sym c),
       append_assoc d (write (drop 1 header) (drop 1 (head_of m))) f ∙ ap (λ xs. d ++ (xs ++ f)) (head_bytes rd s m b o) ∙ ap (λ xs. d ++ (part s 2 11 ++ xs)) k
           ∙ ap (λ xs. d ++ xs) (sym (part-split s 2 11 z) ∙ ap (part s 2) (sym x)),
     )
@@ -120,9 +119,9 @@ behind : (p q : List ℕ) → length p ≡ 2 → drop 2 (p ++ q) ≡ q
 behind p q h = ap (λ k. drop k (p ++ q)) (sym h) ∙ drop-append_seam p q
 
 -- writing what was read gives the consumed bytes, and later bytes stay: behind the length field always, and from it on unless it differed
-pub written_back : (rd : Reading) (s : List ℕ) (m : Message) (n : ℕ) (t : List ℕ) → Bytes s → window_m (Accepted m n) ≡ window rd s → n ≤ length t
-    → (written_of rd m (length t) ≡ Done n) × (drop 2 (buffer_after (Done n) m t) ≡ drop 2 (take n s ++ drop n t))
-    × (Regular s m → buffer_after (Done n) m t ≡ take n s ++ drop n t)
+pub written_back : (rd : Reading) (s : List ℕ) (m : Message) (n : ℕ) (t : List ℕ) → Bytes s → window_m (Ok (m, n)) ≡ window rd s → n ≤ length t
+    → (written_of rd m (length t) ≡ Ok n) × (drop 2 (buffer_after (Ok n) m t) ≡ drop 2 (take n s ++ drop n t))
+    × (Regular s m → buffer_after (Ok n) m t ≡ take n s ++ drop n t)
 unfolding buffer_after
 written_back rd s m n t b e l =
     let o = opened rd s m n (sym e) in
@@ -141,8 +140,8 @@ written_back rd s m n t b e l =
     )
 
 -- so the bytes that are written are those that were read exactly where the length is the size
-pub same-exactly : (rd : Reading) (s : List ℕ) (m : Message) (n : ℕ) (t : List ℕ) → Bytes s → window_m (Accepted m n) ≡ window rd s → n ≤ length t
-    → (Regular s m → take n s ≡ take n (buffer_after (Done n) m t)) × (take n s ≡ take n (buffer_after (Done n) m t) → Regular s m)
+pub same-exactly : (rd : Reading) (s : List ℕ) (m : Message) (n : ℕ) (t : List ℕ) → Bytes s → window_m (Ok (m, n)) ≡ window rd s → n ≤ length t
+    → (Regular s m → take n s ≡ take n (buffer_after (Ok n) m t)) × (take n s ≡ take n (buffer_after (Ok n) m t) → Regular s m)
 unfolding buffer_after
 same-exactly rd s m n t b e l =
     let c = window-covers rd s (message_values m) n (sym e) in

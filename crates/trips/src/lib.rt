@@ -6,18 +6,13 @@ ghost use Rattle.std.specs.Prelude.{◌≡◌};
 ghost use Rattle.reader.specs.Window.{window_of};
 ghost use Rattle.trips.specs.Trips.{written_in, again_of, again_in, ReadBack, WrittenBack};
 
-use format::Reading;
+use format::{Fault, Reading};
 use reader::Window;
 use records::Message;
 use writer::Written;
 
-// What reading and then writing answers: what the writer said of the message; or that it is not all there, or refused, with number and place.
-#[derive(Clone, Copy)]
-pub enum Again {
-    Wrote(Written),
-    NotThere,
-    NotRead(u8, usize),
-}
+// What reading and then writing answers: what the writer said of the message; or why there was none.
+pub type Again = Result<Written, Fault>;
 
 // Writes the record and reads the buffer: the answer is that of the buffer behind the write. A record that was written is read back, unless the reading is
 // strict and refuses its time or a text.
@@ -37,10 +32,6 @@ pub fn read_write(s: &[u8], buf: &mut [u8], reading: Reading) -> Again
     ensures buf_after { buf.new ≡ again_in reading (window_of reading s.now) buf.old }
     ensures written_back { WrittenBack reading s.now buf.old result buf.new }
 {
-    let w = reader::parse_message(s, reading);
-    match w {
-        Window::Message(m, _) => Again::Wrote(writer::write(m, buf, reading)),
-        Window::Incomplete => Again::NotThere,
-        Window::Refused(number, place) => Again::NotRead(number, place),
-    }
+    let (m, _) = reader::parse_message(s, reading)?;
+    Ok(writer::write(m, buf, reading))
 }

@@ -1,56 +1,31 @@
 -- The cases of 30, 33 and the step, over the values that the code has where it returns; the theorems on the walk go by them too.
 -- Assumes nothing.
-use Prim.Native.Nat.{ℕ, zero, suc, ◌≤◌, ◌<◌, ◌-◌, ◌+◌, ◌*◌, ◌^◌, min}
-use mathlib.Core.Path.{◌≡◌, refl, sym, ◌∙◌}
-use mathlib.Core.Bool.{Bool, true, false, cond}
+use Prim.Native.Nat.{ℕ, zero, suc, ◌≤◌, ◌<◌, ◌-◌, ◌+◌, ◌*◌, min}
+use mathlib.Core.Path.{◌≡◌}
+use mathlib.Core.Bool.{true, false}
 use mathlib.Core.List.{List}
 use native.Mathlib.Omega.{arith}
-use borrow.Author.Tests.{ne_eqb, leb-true, leb-false, lt-ltb, le-ltb, ltb-true, le-leb, lt-leb}
+use borrow.Author.Tests.{leb-true, lt-ltb, le-ltb, ltb-true, le-leb}
 use lib.ListN.{length}
-use lib.Dec.{leb, eqb}
+use Rattle.std.specs.Prelude.{Ok, Err}
 use Rattle.format.proofs.Tests.{and_split}
-use Rattle.reader.specs.declared.Window.{Window}
+use Rattle.reader.specs.Window.{Window}
 use Rattle.walk.specs.declared.Walk.{Walk}
-use Rattle.walk.specs.declared.Verdict.{Verdict}
-use Rattle.walk.specs.declared.Verdict.TheVariants.{Accepted, Bad}
 use Rattle.walk.specs.declared.Stepped.{Stepped}
-use Rattle.walk.specs.Walk.{frame_size, count_of, zero_from, sound_of, countable, Ready, put, judge_of, done_of, more_of, refused_of, moved_by, moved_of, step_of}
+use Rattle.walk.specs.Walk.{frame_size, count_of, zero_from, sound_of, countable, Ready, put, judge_of, done_of, more_of, refused_of, moved_by, moved_of, step_of, Verdict}
 use Rattle.walk.proofs.Held.{put_front}
 
 pub count-one : (v : Verdict) → count_of v ≤ 1
-count-one (Accepted m) = omega arith
-count-one (Bad number place) = omega arith
+count-one (Ok m) = omega arith
+count-one (Err r) = omega arith
 
 -- ---- 30
-
-pub unsound-size : (w : Walk) → frame_size w.held ≤ w.seen → false ≡ sound_of w
-unfolding sound_of
-unsound-size w h = rw (le-ltb w.seen (frame_size w.held) h)
-
-pub unsound-two : (w : Walk) → w.seen < frame_size w.held → w.offset < 2 * w.frames → false ≡ sound_of w
-unfolding sound_of
-unsound-two w h k = rw (lt-ltb w.seen (frame_size w.held) h, lt-leb (2 * w.frames) w.offset k)
-
-pub unsound-count : (w : Walk) → w.seen < frame_size w.held → 2 * w.frames ≤ w.offset → w.frames < w.accepted → false ≡ sound_of w
-unfolding sound_of
-unsound-count w h k m =
-    rw (lt-ltb w.seen (frame_size w.held) h, le-leb (2 * w.frames) w.offset k, lt-leb w.accepted w.frames m)
 
 pub sound-rest : (w : Walk) → w.seen < frame_size w.held → 2 * w.frames ≤ w.offset → w.accepted ≤ w.frames
     → sound_of w ≡ zero_from w.held w.seen
 unfolding sound_of
 sound-rest w h k m =
     rw (lt-ltb w.seen (frame_size w.held) h, le-leb (2 * w.frames) w.offset k, le-leb w.accepted w.frames m)
-
--- ---- 33
-
--- the code's test for room, which does not wrap, is the test of `countable`
-pub room-same : (o s n : ℕ) → o < 2 ^ 64 → s ≤ 18446744073709551615 - o → leb n (18446744073709551615 - o - s) ≡ countable o s n
-room-same o s n f h = go (leb n (18446744073709551615 - o - s)) refl
-  where
-    go : (b : Bool) → leb n (18446744073709551615 - o - s) ≡ b → leb n (18446744073709551615 - o - s) ≡ countable o s n
-    go true e = e ∙ sym (lt-ltb (o + s + n) (2 ^ 64) (omega (arith, leb-true n (18446744073709551615 - o - s) e)))
-    go false e = e ∙ sym (le-ltb (o + s + n) (2 ^ 64) (omega (arith, leb-false n (18446744073709551615 - o - s) e)))
 
 -- what the test for 30 shows where it passes
 pub sound-says : (w : Walk) → sound_of w ≡ true
@@ -70,12 +45,12 @@ ready_gives w n s r =
 -- ---- the step, over any window's answer
 
 module _ (win : List ℕ → Window) where
-  -- the bytes that a frame is judged by: the piece's own if it began there, else the joined ones
-  pub judge-either : (seen : ℕ) (h p : List ℕ) (size : ℕ) → length h ≡ 52 → size ≤ seen + length p
-      → judge_of win (cond (eqb seen 0) p (cond (eqb seen 0) h (put h seen p))) size ≡ judge_of win (put h seen p) size
+  -- a frame that began in the piece is judged by the piece's own bytes
+  pub judge-own : (seen : ℕ) (h p : List ℕ) (size : ℕ) → length h ≡ 52 → seen ≡ 0 → size ≤ seen + length p
+      → judge_of win p size ≡ judge_of win (put h seen p) size
   unfolding judge_of
-  judge-either zero h p size l le = rw (put_front (min size 52) h p (omega arith) (omega arith))
-  judge-either (suc seen) h p size l le = rw (ne_eqb (suc seen) 0 (λ e. omega arith))
+  judge-own zero h p size l e le = rw (put_front (min size 52) h p (omega arith) (omega arith))
+  judge-own (suc seen) h p size l e le = absurd (omega arith)
 
   pub moved_more : (w : Walk) (p h : List ℕ) (size : ℕ) → h ≡ put w.held w.seen p → size ≡ frame_size (put w.held w.seen p)
       → w.seen + length p < size → more_of w h (length p) ≡ moved_of win w p

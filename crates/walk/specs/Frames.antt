@@ -2,13 +2,12 @@
 -- Assumes nothing.
 use Rattle.std.specs.Prelude.{ℕ, zero, suc, ◌+◌, List, [], ◌∷◌, ◌++◌, cond, length, take, drop, ltb}
 use Rattle.format.specs.declared.Reading.{Reading}
-use Rattle.reader.specs.declared.Window.{Window}
+use Rattle.reader.specs.Window.{Window}
 use Rattle.walk.specs.declared.Walk.{Walk}
 use Rattle.walk.specs.declared.Stepped.{Stepped}
-use Rattle.walk.specs.declared.Verdict.{Verdict}
 use Rattle.walk.specs.declared.Answer.{Answer}
 use Rattle.walk.specs.declared.Answer.TheVariants.{Frame, WantsMore, Refused}
-use Rattle.walk.specs.Walk.{frame_size, frame_of, count_of, step_of, fresh_of}
+use Rattle.walk.specs.Walk.{frame_size, frame_of, count_of, step_of, fresh_of, Verdict}
 
 -- ---- the walk of a whole recording
 

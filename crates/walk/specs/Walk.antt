@@ -1,14 +1,14 @@
 -- The frame rule, and one step of the walk over a piece of a recording.
 -- Assumes nothing.
-use Rattle.std.specs.Prelude.{ℕ, zero, suc, ◌+◌, ◌-◌, ◌*◌, ◌^◌, min, ◌≤◌, ◌<◌, ◌≡◌, List, [], ◌∷◌, ◌++◌, Bool, true, cond, ◌&&◌, length, get_or, take, drop, replicate, ltb, leb, eqb}
+use Rattle.std.specs.Prelude.{ℕ, zero, suc, ◌+◌, ◌-◌, ◌*◌, ◌^◌, min, ◌≤◌, ◌<◌, ◌≡◌, List, [], ◌∷◌, ◌++◌, Bool, true, cond, ◌&&◌, length, get_or, take, drop, replicate, ltb, leb, eqb, Result, Ok, Err}
 use Rattle.format.specs.declared.Reading.{Reading}
-use Rattle.reader.specs.declared.Window.{Window}
-use Rattle.reader.specs.declared.Window.TheVariants.{Message, Incomplete, Refused}
-use Rattle.reader.specs.Window.{window_of}
+use Rattle.format.specs.declared.Refusal.{Refusal}
+use Rattle.format.specs.declared.Fault.TheVariants.{Short, Refused}
+use Rattle.format.specs.Meaning.{refusal}
+use Rattle.records.specs.declared.Message.{Message}
+use Rattle.reader.specs.Window.{window_of, Window}
 use Rattle.walk.specs.declared.Walk.{Walk}
 use Rattle.walk.specs.declared.Stepped.{Stepped}
-use Rattle.walk.specs.declared.Verdict.{Verdict}
-use Rattle.walk.specs.declared.Verdict.TheVariants.{Accepted, Bad}
 use Rattle.walk.specs.declared.Answer.TheVariants.{Frame, WantsMore, Refused as Refuses}
 
 -- ---- a frame
@@ -20,16 +20,20 @@ size_by a b = a * 256 + b + 2
 abbrev pub frame_size : List ℕ → ℕ
 frame_size s = size_by (get_or s 0 0) (get_or s 1 0)
 
+-- the answer on a frame: its message, or the refusal
+abbrev pub Verdict : Type 0
+Verdict = Result Message Refusal
+
 -- a window's answer turned into that of a frame of this size: bytes left over are 21, incomplete is 20
 abbrev pub verdict_of : Window → ℕ → Verdict
-verdict_of (Message m used) size = cond (ltb used size) (Bad 21 0) (Accepted m)
-verdict_of Incomplete size = Bad 20 0
-verdict_of (Refused number place) size = Bad number place
+verdict_of (Ok (m, used)) size = cond (ltb used size) (Err (refusal 21 0)) (Ok m)
+verdict_of (Err Short) size = Err (refusal 20 0)
+verdict_of (Err (Refused r)) size = Err r
 
 -- what a frame adds to the count of accepted ones
 abbrev pub count_of : Verdict → ℕ
-count_of (Accepted m) = 1
-count_of (Bad number place) = 0
+count_of (Ok m) = 1
+count_of (Err r) = 0
 
 -- ---- 30 and 33
 
@@ -121,5 +125,5 @@ own_step w piece = step_of (window_of w.reading) w piece
 
 -- the two laws of the window's answer that the walk rests on: appended bytes change nothing of an answer; 52 bytes have one
 pub record Lawful (win : List ℕ → Window) : Type 0 where
-  pub appended : (s t : List ℕ) → (win s ≡ Incomplete → ⊥) → win (s ++ t) ≡ win s
-  pub full : (s : List ℕ) → 52 ≤ length s → win s ≡ Incomplete → ⊥
+  pub appended : (s t : List ℕ) → (win s ≡ Err Short → ⊥) → win (s ++ t) ≡ win s
+  pub full : (s : List ℕ) → 52 ≤ length s → win s ≡ Err Short → ⊥

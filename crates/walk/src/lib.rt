@@ -2,11 +2,12 @@
 // then L bytes. The step itself stands in the crate walking.
 #![tactic(auto)]
 
-ghost use Rattle.std.specs.Prelude.{◌≡◌, min};
+ghost use Rattle.std.specs.Prelude.{◌≡◌, ◌==◌};
+ghost use Rattle.std.specs.List.{list_all};
 ghost use Rattle.reader.specs.Window.{window_of};
 ghost use Rattle.walk.specs.Walk.{size_by, verdict_of, judge_of, zero_from, sound_of, countable, ready_of, put, fresh_of};
 
-use format::Reading;
+use format::{Fault, Reading, Refusal};
 use reader::Window;
 use records::Message;
 
@@ -23,11 +24,7 @@ pub struct Walk {
 }
 
 // The answer on one frame: its message, or number and place.
-#[derive(Clone, Copy)]
-pub enum Verdict {
-    Accepted(Message),
-    Bad(u8, usize),
-}
+pub type Verdict = Result<Message, Refusal>;
 
 // What a step answers: a frame that ended, with its offset, its size and the answer on it; the piece is used up; 30 or 33.
 #[derive(Clone, Copy)]
@@ -63,119 +60,98 @@ pub fn fresh(reading: Reading) -> Walk
     }
 }
 
-fn wide(x: u8) -> usize
-    ensures { result ≡ x }
-{
-    x as usize
-}
-
 // A frame's size by its two length bytes: 2 + L.
 pub fn size_by(a: u8, b: u8) -> usize
     ensures { result ≡ size_by a b }
 {
-    wide(a) * 256 + wide(b) + 2
+    usize::from(a) * 256 + usize::from(b) + 2
 }
 
-fn zero_from(held: [u8; 52], from: usize) -> bool
-    ensures { result ≡ zero_from held from }
+fn all_zero(s: &[u8]) -> bool
+    ensures { result ≡ list_all (λ b. b == 0) s.now }
 {
-    let mut i = from;
-    while i < 52 {
-        if held[i] != 0 {
-            return false;
-        }
-        i += 1;
-    }
-    true
+    s.iter().all(|b| *b == 0)
+}
+
+// Whether the held bytes from a place on are zero.
+fn zero_from(held: &[u8; 52], from: usize) -> bool
+    ensures { result ≡ zero_from held.now from }
+{
+    all_zero(&held[from.min(52)..])
 }
 
 // 30, turned round: whether steps can have led to this state.
+#[tactic(auto, using(std::proofs::lemmas::Bool::Decides::nat_tests), unfolding(crate::specs::Walk::sound_of))]
 pub fn sound(w: Walk) -> bool
     ensures { result ≡ sound_of w }
 {
-    let seen = w.seen;
-    let held = w.held;
-    if size_by(held[0], held[1]) <= seen {
-        return false;
-    }
-    if w.offset / 2 < w.frames {
-        return false;
-    }
-    if w.frames < w.accepted {
-        return false;
-    }
-    zero_from(held, seen)
+    w.seen < size_by(w.held[0], w.held[1])
+        && w.frames <= w.offset / 2
+        && w.accepted <= w.frames
+        && zero_from(&w.held, w.seen)
 }
 
 // 33, turned round: whether the offset behind n bytes more is below 2^64.
+#[tactic(auto, using(std::proofs::lemmas::Bool::Decides::nat_tests))]
 pub fn room(offset: u64, seen: usize, n: usize) -> bool
     ensures { result ≡ countable offset seen n }
 {
-    let left = 18446744073709551615 - offset;
-    if left < seen as u64 {
+    let Some(here) = offset.checked_add(seen as u64) else {
         return false;
-    }
-    n as u64 <= left - seen as u64
+    };
+    here.checked_add(n as u64).is_some()
 }
 
 // Whether a step over n bytes more refuses neither 30 nor 33. A block function of a layer above asks it once for a block, and then goes on by `size_by`, `judge` and `put_in`.
 pub fn ready(w: Walk, n: usize) -> bool
     ensures { result ≡ ready_of w n }
 {
-    if !sound(w) {
-        return false;
-    }
-    let offset = w.offset;
-    let seen = w.seen;
-    room(offset, seen, n)
+    sound(w) && room(w.offset, w.seen, n)
+}
+
+// Puts the piece at the front of `free`, as far as there is room; the rest of it stays.
+fn fill(free: &mut [u8], piece: &[u8])
+    ensures { free.new ≡ put free.old 0 piece.now }
+{
+    let n = free.len().min(piece.len());
+    free[..n].copy_from_slice(&piece[..n]);
 }
 
 // The held bytes with those of the piece put in from place `seen` on, as far as there is room.
-pub fn put_in(held: [u8; 52], seen: usize, piece: &[u8]) -> [u8; 52]
+pub fn put_in(mut held: [u8; 52], seen: usize, piece: &[u8]) -> [u8; 52]
     ensures { result ≡ put held seen piece.now }
 {
-    let mut out = held;
-    let mut at = seen;
-    let mut i = 0;
-    while at < 52 {
-        if piece.len() <= i {
-            return out;
-        }
-        out[at] = piece[i];
-        at += 1;
-        i += 1;
-    }
-    out
+    fill(&mut held[seen.min(52)..], piece);
+    held
 }
 
-// A window's answer turned into a frame's: bytes left over are 21, incomplete is 20.
+// A window's answer turned into a frame's: bytes left over are 21, incomplete is 20. Three outcomes become two, each its own way: so a match, and no `?`.
 fn turned(win: Window, size: usize) -> Verdict
     ensures { result ≡ verdict_of win size }
 {
     match win {
-        Window::Message(m, used) => {
+        Ok((m, used)) => {
             if used < size {
-                Verdict::Bad(21, 0)
+                Err(Refusal {
+                    number: 21,
+                    place: 0,
+                })
             } else {
-                Verdict::Accepted(m)
+                Ok(m)
             }
         }
-        Window::Incomplete => Verdict::Bad(20, 0),
-        Window::Refused(number, place) => Verdict::Bad(number, place),
+        Err(Fault::Short) => Err(Refusal {
+            number: 20,
+            place: 0,
+        }),
+        Err(Fault::Refused(r)) => Err(r),
     }
-}
-
-fn least(a: usize, b: usize) -> usize
-    ensures { result ≡ min a b }
-{
-    if a < b { a } else { b }
 }
 
 // The frame rule: the answer on a frame by a reading, from its size and its first bytes. No more than 52 are looked at, since 52 always have an answer.
 pub fn judge(s: &[u8], size: usize, reading: Reading) -> Verdict
     ensures { result ≡ judge_of (window_of reading) s.now size }
 {
-    let looked = least(size, 52);
-    let n = least(looked, s.len());
+    let n = size.min(52).min(s.len());
     turned(reader::parse_message(&s[..n], reading), size)
 }

@@ -4,7 +4,7 @@
 #![tactic(auto)]
 
 ghost use Rattle.std.specs.Prelude.{◌≡◌};
-ghost use Rattle.words.specs.Words.{equal, word_of, unknown_of, once_of, with_of, reading_of, byte_of, ending_by};
+ghost use Rattle.words.specs.Words.{word_of, with_of, reading_of, byte_of, stop_by, ending_by};
 
 use format::{Edition, Reading};
 use std::env::FillError;
@@ -13,18 +13,17 @@ use std::io::{Stderr, Write};
 use std::rt::{Env, Files};
 
 // What one word asks for: `quiet`, lines for what is refused only; `later`, the later edition; `strict`, the strict reading; `status`, the byte at the
-// end; anything else is no word.
-#[derive(Clone, Copy)]
+// end.
+#[derive(Clone, Copy, PartialEq, Eq)]
 pub enum Word {
     Quiet,
     Later,
     Strict,
     Status,
-    Other,
 }
 
 // What all words ask for, and whether each is one that the program has, and none is there twice.
-#[derive(Clone, Copy)]
+#[derive(Clone, Copy, PartialEq, Eq)]
 pub struct Words {
     pub quiet: bool,
     pub later: bool,
@@ -34,7 +33,7 @@ pub struct Words {
 }
 
 // How a run went: all was accepted; something was refused, or bytes are left over; the words are none, so there was no run; a read or a write failed.
-#[derive(Clone, Copy)]
+#[derive(Clone, Copy, PartialEq, Eq)]
 pub enum Ending {
     Clean,
     Found,
@@ -42,131 +41,79 @@ pub enum Ending {
     Failed,
 }
 
-// Whether both have the same bytes.
-fn is(s: &[u8], t: &[u8]) -> bool
-    ensures { result ≡ equal s.now t.now }
-{
-    if s.len() != t.len() {
-        return false;
-    }
-    let mut i = 0;
-    while i < s.len() {
-        if s[i] != t[i] {
-            return false;
+// The byte of an ending: `0`, `1`, `2` or `3`.
+impl From<Ending> for u8 {
+    ghost from_gives = { λ o b. b ≡ byte_of o };
+
+    fn from(o: Ending) -> u8 {
+        match o {
+            Ending::Clean => b'0',
+            Ending::Found => b'1',
+            Ending::Misused => b'2',
+            Ending::Failed => b'3',
         }
-        i += 1;
     }
-    true
 }
 
-// Which word these bytes are.
-pub fn word_of(s: &[u8]) -> Word
+// How the words ask to read: by the old edition, or by the later one where `later` is among them; strictly where `strict` is.
+impl From<Words> for Reading {
+    ghost from_gives = { λ w r. r ≡ reading_of w };
+
+    fn from(w: Words) -> Reading {
+        Reading {
+            edition: if w.later {
+                Edition::Later
+            } else {
+                Edition::Old
+            },
+            strict: w.strict,
+        }
+    }
+}
+
+// Which word these bytes are, where they are one.
+pub fn word_of(s: &[u8]) -> Option<Word>
     ensures { result ≡ word_of s.now }
 {
-    if is(s, b"quiet") {
-        return Word::Quiet;
-    }
-    if is(s, b"later") {
-        return Word::Later;
-    }
-    if is(s, b"strict") {
-        return Word::Strict;
-    }
-    if is(s, b"status") {
-        return Word::Status;
-    }
-    Word::Other
-}
-
-// A word that the program has not.
-fn unknown(w: Words) -> Words
-    ensures { result ≡ unknown_of w }
-{
-    Words {
-        quiet: w.quiet,
-        later: w.later,
-        strict: w.strict,
-        status: w.status,
-        known: false,
+    match s {
+        b"quiet" => Some(Word::Quiet),
+        b"later" => Some(Word::Later),
+        b"strict" => Some(Word::Strict),
+        b"status" => Some(Word::Status),
+        _ => None,
     }
 }
 
-// Whether the words are still known behind one that was there before, or was not.
-fn once(known: bool, before: bool) -> bool
-    ensures { result ≡ once_of known before }
-{
-    if before {
-        return false;
-    }
-    known
-}
-
-// One word more. `quiet` is known to a program that has it; no word is known a second time.
-pub fn with(w: Words, word: Word, has: bool) -> Words
+// One word more, or what is none. `quiet` is known to a program that has it; no word is known a second time.
+pub fn with(w: Words, word: Option<Word>, has: bool) -> Words
     ensures { result ≡ with_of w word has }
 {
     match word {
-        Word::Quiet => {
-            if has {
-                Words {
-                    quiet: true,
-                    later: w.later,
-                    strict: w.strict,
-                    status: w.status,
-                    known: once(w.known, w.quiet),
-                }
-            } else {
-                unknown(w)
-            }
-        }
-        Word::Later => Words {
-            quiet: w.quiet,
+        Some(Word::Quiet) if has => Words {
+            quiet: true,
+            known: w.known && !w.quiet,
+            ..w
+        },
+        Some(Word::Later) => Words {
             later: true,
-            strict: w.strict,
-            status: w.status,
-            known: once(w.known, w.later),
+            known: w.known && !w.later,
+            ..w
         },
-        Word::Strict => Words {
-            quiet: w.quiet,
-            later: w.later,
+        Some(Word::Strict) => Words {
             strict: true,
-            status: w.status,
-            known: once(w.known, w.strict),
+            known: w.known && !w.strict,
+            ..w
         },
-        Word::Status => Words {
-            quiet: w.quiet,
-            later: w.later,
-            strict: w.strict,
+        Some(Word::Status) => Words {
             status: true,
-            known: once(w.known, w.status),
+            known: w.known && !w.status,
+            ..w
         },
-        Word::Other => unknown(w),
+        _ => Words { known: false, ..w },
     }
 }
 
-// The byte of an ending: `0`, `1`, `2` or `3`.
-pub fn byte_of(o: Ending) -> u8
-    ensures { result ≡ byte_of o }
-{
-    match o {
-        Ending::Clean => b'0',
-        Ending::Found => b'1',
-        Ending::Misused => b'2',
-        Ending::Failed => b'3',
-    }
-}
-
-// The word at a place among the program's arguments, if there is one. One that is longer than any word is none of the words.
-fn word_at(rt: &impl Env, i: usize) -> Option<Word> {
-    let mut buf = [0u8; 16];
-    match rt.arg(i, &mut buf) {
-        Ok(n) => Some(word_of(&buf[..n])),
-        Err(FillError::TooLong) => Some(Word::Other),
-        Err(FillError::NotPresent) => None,
-    }
-}
-
-// The words that this program was started with.
+// The words that this program was started with. One that is longer than any word is none.
 pub fn asked(rt: &impl Env, has: bool) -> Words {
     let mut w = Words {
         quiet: false,
@@ -176,29 +123,15 @@ pub fn asked(rt: &impl Env, has: bool) -> Words {
         known: true,
     };
     for i in 1..usize::MAX {
-        match word_at(rt, i) {
-            Some(word) => w = with(w, word, has),
-            None => return w,
-        }
+        let mut buf = [0u8; 16];
+        let word = match rt.arg(i, &mut buf) {
+            Ok(n) => word_of(&buf[..n]),
+            Err(FillError::TooLong) => None,
+            Err(FillError::NotPresent) => return w,
+        };
+        w = with(w, word, has);
     }
     w
-}
-
-// How the words ask to read: by the old edition, or by the later one where `later` is among them; strictly where `strict` is.
-pub fn reading(w: Words) -> Reading
-    ensures { result ≡ reading_of w }
-{
-    let strict = w.strict;
-    if w.later {
-        return Reading {
-            edition: Edition::Later,
-            strict,
-        };
-    }
-    Reading {
-        edition: Edition::Old,
-        strict,
-    }
 }
 
 // One byte on descriptor 3, which the system has as a file of this name. Where that is none, or takes no byte, nothing is said.
@@ -213,7 +146,7 @@ fn signal(rt: &impl Files, byte: u8) {
 // The last act of a program that was asked for it: the ending's byte on descriptor 3.
 pub fn say(rt: &impl Files, w: Words, o: Ending) {
     if w.status {
-        signal(rt, byte_of(o));
+        signal(rt, u8::from(o));
     }
 }
 
@@ -223,30 +156,32 @@ pub fn misuse(rt: &impl Files, error: Stderr, w: Words, line: &[u8]) {
     say(rt, w, Ending::Misused);
 }
 
-// How a run of the stream went, by the number that it stopped with and by whether all writes were taken.
-pub fn ending_by(number: u8, taken: bool) -> Ending
+// The number that a run of the stream stopped with, where 0 is its clean end.
+pub fn stop_by(number: u8) -> Option<u8>
+    ensures { result ≡ stop_by number }
+{
+    (number != 0).then_some(number)
+}
+
+// How a run of the stream went, by the number that it stopped with, none at its clean end, and by whether all writes were taken.
+pub fn ending_by(number: Option<u8>, taken: bool) -> Ending
     ensures { result ≡ ending_by number taken }
 {
-    if !taken {
-        return Ending::Failed;
+    match number {
+        _ if !taken => Ending::Failed,
+        None => Ending::Clean,
+        Some(11) => Ending::Failed,
+        Some(_) => Ending::Found,
     }
-    if number == 0 {
-        return Ending::Clean;
-    }
-    if number == 11 {
-        return Ending::Failed;
-    }
-    Ending::Found
 }
 
 // On standard error, where in the recording a run of the stream stopped, unless that is its clean end, and whether a write failed.
-pub fn stopped(error: Stderr, name: &[u8], number: u8, offset: u64, taken: bool) {
-    if number != 0 {
+pub fn stopped(error: Stderr, name: &[u8], number: Option<u8>, offset: u64, taken: bool) {
+    if let Some(number) = number {
         let _ = error.write_all(name);
-        let _ = error.print(": stopped with ");
-        let _ = error.print(number);
-        let _ = error.print(" at the message that begins at byte ");
-        let _ = error.println(offset);
+        let _ = error.println(format_args!(
+            ": stopped with {number} at the message that begins at byte {offset}"
+        ));
     }
     if !taken {
         let _ = error.write_all(name);
@@ -260,7 +195,7 @@ pub fn finish(
     error: Stderr,
     w: Words,
     name: &[u8],
-    number: u8,
+    number: Option<u8>,
     offset: u64,
     taken: bool,
 ) {

@@ -9,6 +9,7 @@ use Prim.Native.Nat.{ℕ, ◌+◌, ◌^◌, ◌≤◌, ◌<◌}
 use lib.ListN.{length, length-append, get_or, drop}
 use lib.Seq.{sets, sets-eq, length-sets}
 use borrow.Author.Tests.{eq-eqb, ne_eqb, lt-ltb, le-ltb, le-leb, lt-leb}
+use Rattle.std.specs.Prelude.{Ok, Err}
 use Rattle.format.specs.Utf8.{well_formed}
 use Rattle.format.specs.Layout.{widths}
 use Rattle.format.specs.Rows.{size_in, size_of, size_by, header}
@@ -17,15 +18,14 @@ use Rattle.format.proofs.Editions.{row_in}
 use Rattle.pen.specs.Encode.{digits, write, layout, put_row}
 use Rattle.pen.proofs.Digits.{sets-append}
 use Rattle.pen.proofs.Puts.{length-write, row_fits}
-use Rattle.records.specs.declared.Mpid.{Mpid}
-use Rattle.records.specs.declared.Mpid.TheVariants.{Absent, Present}
+use Rattle.std.proofs.Common.{Option, Some, None}
 use Rattle.records.specs.declared.AddOrder.{AddOrder}
 use Rattle.records.specs.declared.Body.{Body}
 use Rattle.records.specs.declared.Body.TheVariants as Body·
 use Rattle.records.specs.declared.Message.{Message}
 use Rattle.records.specs.Values.{order_values, values}
 use Rattle.writer.specs.declared.Checked.{Checked}
-use Rattle.writer.specs.declared.Written.TheVariants.{Done, Refused}
+use Rattle.writer.specs.declared.WriteError.TheVariants.{Kind, Time, Text, Intraday, Room}
 use Rattle.writer.specs.Writing.{tag_of, fields_of, texts_of, intraday, checked_of, mpid_tag, mpid_fine, head_of, encode, written_of}
 
 and-true : (b : Bool) → b && true ≡ b
@@ -60,25 +60,25 @@ pub two-texts : (t w v x y : ℕ) {r a b : Bool} {k : Checked} → k ≡ looked 
 two-texts t w v x y {b = b} q e f g =
     ap (λ x. looked t x false) (g ∙ ap (λ a. a && b) e ∙ ap (λ b. well_formed (digits w v) && b) (f ∙ sym (and-true (well_formed (digits x y))))) ∙ sym q
 
-pub order-checked : (a : AddOrder) (p : Mpid) {t : ℕ} {r x y : Bool} → t ≡ mpid_tag p → x ≡ well_formed (digits 8 a.stock) → y ≡ mpid_fine p → r ≡ x && y
+pub order-checked : (a : AddOrder) (p : Option ℕ) {t : ℕ} {r x y : Bool} → t ≡ mpid_tag p → x ≡ well_formed (digits 8 a.stock) → y ≡ mpid_fine p → r ≡ x && y
     → looked t r false ≡ checked_of (order_values a p)
 unfolding texts_of intraday layout
 order-checked a p {r = r} {y = y} h e f g =
     let q : r ≡ well_formed (digits 8 a.stock) && mpid_fine p = g ∙ ap (λ x. x && y) e ∙ ap (λ y. well_formed (digits 8 a.stock) && y) f in
     ap (λ t. looked t r false) h ∙ ap (λ x. looked (mpid_tag p) x false) q ∙ go p
   where
-    go : (p : Mpid) → looked (mpid_tag p) (well_formed (digits 8 a.stock) && mpid_fine p) false ≡ checked_of (order_values a p)
-    go Absent = refl
-    go (Present v) = ap (λ y. looked (mpid_tag (Present v)) (well_formed (digits 8 a.stock) && y) false) (sym (and-true (well_formed (digits 4 v))))
+    go : (p : Option ℕ) → looked (mpid_tag p) (well_formed (digits 8 a.stock) && mpid_fine p) false ≡ checked_of (order_values a p)
+    go None = refl
+    go (Some v) = ap (λ y. looked (mpid_tag (Some v)) (well_formed (digits 8 a.stock) && y) false) (sym (and-true (well_formed (digits 4 v))))
 
 -- a body goes by its tag's row: the size is that of the fields, counted from the tag on; behind the tag stand as many values as the row has fields
 abbrev Rowed : List ℕ → Type 0
 Rowed vs = (size_of (get_or vs 0 0) ≡ 11 + widths (layout (get_or vs 0 0))) × (length vs ≡ 1 + length (layout (get_or vs 0 0)))
 
-order-rowed : (a : AddOrder) (p : Mpid) → Rowed (order_values a p)
+order-rowed : (a : AddOrder) (p : Option ℕ) → Rowed (order_values a p)
 unfolding size_of layout
-order-rowed a Absent = (refl, refl)
-order-rowed a (Present v) = (refl, refl)
+order-rowed a None = (refl, refl)
+order-rowed a (Some v) = (refl, refl)
 
 body-rowed : (b : Body) → Rowed (values b)
 unfolding size_of layout
@@ -122,36 +122,36 @@ known rd t e h = let l : 0 < size_by rd t = omega arith in (l, e ∙ size-by rd 
 
 -- the answers
 module _ (rd : Reading) (m : Message) (room : ℕ) where
-  pub says40 : (m.tag ≡ tag_of m.body → ⊥) → Refused 40 ≡ written_of rd m room
+  pub says40 : (m.tag ≡ tag_of m.body → ⊥) → Err Kind ≡ written_of rd m room
   unfolding written_of
   says40 h = rw (ne_eqb _ _ h)
 
   module _ (t : m.tag ≡ tag_of m.body) where
-    pub says40-unknown : size_by rd m.tag ≡ 0 → Refused 40 ≡ written_of rd m room
+    pub says40-unknown : size_by rd m.tag ≡ 0 → Err Kind ≡ written_of rd m room
     unfolding written_of
     says40-unknown z = rw (eq-eqb _ _ t, z)
 
     module _ (k : 0 < size_by rd m.tag) where
-      pub says41 : 2 ^ 48 ≤ m.timestamp → Refused 41 ≡ written_of rd m room
+      pub says41 : 2 ^ 48 ≤ m.timestamp → Err Time ≡ written_of rd m room
       unfolding written_of
       says41 h = rw (eq-eqb _ _ t, lt-ltb _ _ k, le-ltb _ _ h)
 
       module _ (h : m.timestamp < 2 ^ 48) where
-        pub says42 : texts_of (values m.body) ≡ false → Refused 42 ≡ written_of rd m room
+        pub says42 : texts_of (values m.body) ≡ false → Err Text ≡ written_of rd m room
         unfolding written_of
         says42 f = rw (eq-eqb _ _ t, lt-ltb _ _ k, lt-ltb _ _ h, f)
 
         module _ (f : texts_of (values m.body) ≡ true) where
-          pub says43 : intraday (values m.body) ≡ true → Refused 43 ≡ written_of rd m room
+          pub says43 : intraday (values m.body) ≡ true → Err Intraday ≡ written_of rd m room
           unfolding written_of
           says43 i = rw (eq-eqb _ _ t, lt-ltb _ _ k, lt-ltb _ _ h, f, i)
 
           module _ (i : intraday (values m.body) ≡ false) where
-            pub says44 : room < 2 + size_of m.tag → Refused 44 ≡ written_of rd m room
+            pub says44 : room < 2 + size_of m.tag → Err Room ≡ written_of rd m room
             unfolding written_of
             says44 l = rw (eq-eqb _ _ t, lt-ltb _ _ k, lt-ltb _ _ h, f, i, lt-leb _ _ l)
 
-            pub says-done : 2 + size_of m.tag ≤ room → Done (2 + size_of m.tag) ≡ written_of rd m room
+            pub says-done : 2 + size_of m.tag ≤ room → Ok (2 + size_of m.tag) ≡ written_of rd m room
             unfolding written_of
             says-done l = rw (eq-eqb _ _ t, lt-ltb _ _ k, lt-ltb _ _ h, f, i, le-leb _ _ l)
 

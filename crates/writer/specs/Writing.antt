@@ -1,19 +1,29 @@
 -- What writing a message into a buffer answers, by a reading, and the buffer afterwards. The bytes go by the rows that the reader goes by.
 -- Assumes nothing.
-use Rattle.std.specs.Prelude.{ℕ, ◌+◌, ◌^◌, List, [], ◌∷◌, ◌++◌, Bool, true, cond, ◌&&◌, ltb, leb, eqb, get_or, drop}
+use Rattle.std.specs.Prelude.{ℕ, Option, Some, None, ◌+◌, ◌^◌, List, [], ◌∷◌, ◌++◌, Bool, true, cond, ◌&&◌, ltb, leb, eqb, get_or, drop, Result, Ok, Err}
 use Rattle.format.specs.Ascii.{'A', 'F', 'I'}
 use Rattle.format.specs.Utf8.{well_formed}
 use Rattle.format.specs.Rows.{size_of, size_by, header}
 use Rattle.format.specs.declared.Reading.{Reading}
 use Rattle.pen.specs.Encode.{digits, write, layout, texts_fine, Sized}
-use Rattle.records.specs.declared.Mpid.{Mpid}
-use Rattle.records.specs.declared.Mpid.TheVariants.{Absent, Present}
 use Rattle.records.specs.declared.Body.{Body}
 use Rattle.records.specs.declared.Message.{Message}
 use Rattle.records.specs.Values.{values}
 use Rattle.writer.specs.declared.Checked.{Checked}
-use Rattle.writer.specs.declared.Written.{Written}
-use Rattle.writer.specs.declared.Written.TheVariants.{Done, Refused}
+use Rattle.writer.specs.declared.WriteError.{WriteError}
+use Rattle.writer.specs.declared.WriteError.TheVariants.{Kind, Time, Text, Intraday, Room}
+
+-- so many bytes were written, or why none
+abbrev pub Written : Type 0
+Written = Result ℕ WriteError
+
+-- the number of a refusal
+abbrev pub number_of : WriteError → ℕ
+number_of Kind = 40
+number_of Time = 41
+number_of Text = 42
+number_of Intraday = 43
+number_of Room = 44
 
 -- the tag that a body belongs to, and its fields' values
 abbrev pub tag_of : Body → ℕ
@@ -34,13 +44,13 @@ abbrev pub checked_of : List ℕ → Checked
 checked_of vs = record { tag = get_or vs 0 0; texts = texts_of vs; intraday = intraday vs }
 
 -- the same of the part of an add order that only F has
-abbrev pub mpid_tag : Mpid → ℕ
-mpid_tag Absent = 'A'
-mpid_tag (Present v) = 'F'
+abbrev pub mpid_tag : Option ℕ → ℕ
+mpid_tag None = 'A'
+mpid_tag (Some v) = 'F'
 
-abbrev pub mpid_fine : Mpid → Bool
-mpid_fine Absent = true
-mpid_fine (Present v) = well_formed (digits 4 v)
+abbrev pub mpid_fine : Option ℕ → Bool
+mpid_fine None = true
+mpid_fine (Some v) = well_formed (digits 4 v)
 
 -- a message's values in the order of its bytes; the length is the size
 abbrev pub head_of : Message → List ℕ
@@ -59,19 +69,19 @@ written_of rd m room =
     cond (tag_fine rd m)
     (cond (ltb m.timestamp (2 ^ 48))
     (cond (texts_of (values m.body))
-    (cond (intraday (values m.body)) (Refused 43)
-    (cond (leb (2 + size_of m.tag) room) (Done (2 + size_of m.tag))
-    (Refused 44)))
-    (Refused 42))
-    (Refused 41))
-    (Refused 40)
+    (cond (intraday (values m.body)) (Err Intraday)
+    (cond (leb (2 + size_of m.tag) room) (Ok (2 + size_of m.tag))
+    (Err Room)))
+    (Err Text))
+    (Err Time))
+    (Err Kind)
 
 -- the buffer after an answer: the message in front, and later bytes stay; as it was, after a refusal
 unfoldable pub buffer_after : Written → Message → List ℕ → List ℕ
-buffer_after (Done n) m s = encode m ++ drop n s
-buffer_after (Refused k) m s = s
+buffer_after (Ok n) m s = encode m ++ drop n s
+buffer_after (Err e) m s = s
 
 -- what the types say of a message that is written: each value fits its field
 unfoldable pub FieldsFit : Written → Message → Type 0
-FieldsFit (Done n) m = Sized header (head_of m) × Sized (layout (tag_of m.body)) (fields_of m.body)
-FieldsFit (Refused k) m = Unit {0}
+FieldsFit (Ok n) m = Sized header (head_of m) × Sized (layout (tag_of m.body)) (fields_of m.body)
+FieldsFit (Err e) m = Unit {0}

@@ -10,17 +10,45 @@ ghost use Rattle.pen.specs.Encode.{PutRow};
 ghost use Rattle.records.specs.Values.{values};
 ghost use Rattle.writer.specs.Writing.{checked_of, mpid_tag, mpid_fine, written_of, buffer_after, FieldsFit};
 
-use codes::CrossType;
+use codes::{Code, CrossType};
 use format::Reading;
-use records::{Body, Message, Mpid};
+use records::{Body, Message, Text4};
 
-// Written, and how many bytes; or refused: 40 tag and body kind disagree, or the reading has no such tag, 41 timestamp of 2^48 or more, 42 a text
-// that is not UTF-8, 43 Intraday in an imbalance record, 44 the buffer is shorter than 2 + size.
-#[derive(Clone, Copy)]
-pub enum Written {
-    Done(usize),
-    Refused(u8),
+// Why a record is not written.
+#[derive(Clone, Copy, Debug, PartialEq, Eq)]
+pub enum WriteError {
+    // 40: tag and body kind disagree, or the reading has no such tag
+    Kind,
+    // 41: a timestamp of 2^48 or more
+    Time,
+    // 42: a text that is not UTF-8
+    Text,
+    // 43: Intraday in an imbalance record
+    Intraday,
+    // 44: the buffer is shorter than 2 + size
+    Room,
 }
+
+// The number that a refusal has in the document.
+impl From<WriteError> for u8 {
+    ghost use Rattle.std.specs.Prelude.{◌≡◌};
+    ghost use Rattle.writer.specs.Writing.{number_of};
+
+    ghost from_gives = { λ e n. n ≡ number_of e };
+
+    fn from(e: WriteError) -> u8 {
+        match e {
+            WriteError::Kind => 40,
+            WriteError::Time => 41,
+            WriteError::Text => 42,
+            WriteError::Intraday => 43,
+            WriteError::Room => 44,
+        }
+    }
+}
+
+// Written, and how many bytes; or why not.
+pub type Written = Result<usize, WriteError>;
 
 // What is looked at before a body is written: the tag that it belongs to, whether its texts are UTF-8, whether it is an imbalance record with
 // the cross Intraday.
@@ -31,21 +59,25 @@ pub struct Checked {
     pub intraday: bool,
 }
 
-fn mpid_tag(mpid: Mpid) -> u8
+// A body that has no texts and is no imbalance record, but for its tag.
+const FINE: Checked = Checked {
+    tag: 0,
+    texts: true,
+    intraday: false,
+};
+
+fn mpid_tag(mpid: Option<Text4>) -> u8
     ensures { result ≡ mpid_tag mpid }
 {
-    match mpid {
-        Mpid::Absent => b'A',
-        Mpid::Present(_) => b'F',
-    }
+    if mpid.is_none() { b'A' } else { b'F' }
 }
 
-fn is_mpid(mpid: Mpid) -> bool
+fn is_mpid(mpid: Option<Text4>) -> bool
     ensures { result ≡ mpid_fine mpid }
 {
     match mpid {
-        Mpid::Absent => true,
-        Mpid::Present(v) => pen::is_text4(v),
+        None => true,
+        Some(v) => pen::is_text(v),
     }
 }
 
@@ -58,7 +90,7 @@ fn both(a: bool, b: bool) -> bool
 fn is_intraday(x: CrossType) -> bool
     ensures { result ≡ eqb (cross_byte x) 'I' }
 {
-    codes::cross_code(x) == b'I'
+    CrossType::byte(x) == b'I'
 }
 
 // What is looked at before a body is written.
@@ -67,152 +99,83 @@ fn check_body(b: Body) -> Checked
 {
     match b {
         Body::AddOrder(x) => {
-            let mpid = x.mpid;
             Checked {
-                tag: mpid_tag(mpid),
-                texts: both(pen::is_text8(x.stock), is_mpid(mpid)),
-                intraday: false,
+                tag: mpid_tag(x.mpid),
+                texts: both(pen::is_text(x.stock), is_mpid(x.mpid)),
+                ..FINE
             }
         }
-        Body::Breach(_) => Checked {
-            tag: b'W',
-            texts: true,
-            intraday: false,
-        },
-        Body::BrokenTrade { match_number: _ } => Checked {
-            tag: b'B',
-            texts: true,
-            intraday: false,
-        },
+        Body::Breach(_) => Checked { tag: b'W', ..FINE },
+        Body::BrokenTrade { .. } => Checked { tag: b'B', ..FINE },
         Body::CrossTrade(x) => Checked {
             tag: b'Q',
-            texts: pen::is_text8(x.stock),
-            intraday: false,
+            texts: pen::is_text(x.stock),
+            ..FINE
         },
-        Body::DeleteOrder { reference: _ } => Checked {
-            tag: b'D',
-            texts: true,
-            intraday: false,
-        },
+        Body::DeleteOrder { .. } => Checked { tag: b'D', ..FINE },
         Body::Imbalance(x) => {
             let cross_type = x.cross_type;
             Checked {
                 tag: b'I',
-                texts: pen::is_text8(x.stock),
+                texts: pen::is_text(x.stock),
                 intraday: is_intraday(cross_type),
             }
         }
         Body::IpoQuotingPeriod(x) => Checked {
             tag: b'K',
-            texts: pen::is_text8(x.stock),
-            intraday: false,
+            texts: pen::is_text(x.stock),
+            ..FINE
         },
-        Body::LULDAuctionCollar {
-            stock,
-            ref_price: _,
-            upper_price: _,
-            lower_price: _,
-            extension: _,
-        } => Checked {
+        Body::LULDAuctionCollar { stock, .. } => Checked {
             tag: b'J',
-            texts: pen::is_text8(stock),
-            intraday: false,
+            texts: pen::is_text(stock),
+            ..FINE
         },
-        Body::MwcbDeclineLevel {
-            level1: _,
-            level2: _,
-            level3: _,
-        } => Checked {
-            tag: b'V',
-            texts: true,
-            intraday: false,
-        },
+        Body::MwcbDeclineLevel { .. } => Checked { tag: b'V', ..FINE },
         Body::NonCrossTrade(x) => Checked {
             tag: b'P',
-            texts: pen::is_text8(x.stock),
-            intraday: false,
+            texts: pen::is_text(x.stock),
+            ..FINE
         },
-        Body::OrderCancelled {
-            reference: _,
-            cancelled: _,
-        } => Checked {
-            tag: b'X',
-            texts: true,
-            intraday: false,
-        },
-        Body::OrderExecuted {
-            reference: _,
-            executed: _,
-            match_number: _,
-        } => Checked {
-            tag: b'E',
-            texts: true,
-            intraday: false,
-        },
-        Body::OrderExecutedWithPrice {
-            reference: _,
-            executed: _,
-            match_number: _,
-            printable: _,
-            price: _,
-        } => Checked {
-            tag: b'C',
-            texts: true,
-            intraday: false,
-        },
+        Body::OrderCancelled { .. } => Checked { tag: b'X', ..FINE },
+        Body::OrderExecuted { .. } => Checked { tag: b'E', ..FINE },
+        Body::OrderExecutedWithPrice { .. } => Checked { tag: b'C', ..FINE },
         Body::ParticipantPosition(x) => Checked {
             tag: b'L',
-            texts: both(pen::is_text4(x.mpid), pen::is_text8(x.stock)),
-            intraday: false,
+            texts: both(pen::is_text(x.mpid), pen::is_text(x.stock)),
+            ..FINE
         },
-        Body::RegShoRestriction { stock, action: _ } => Checked {
+        Body::RegShoRestriction { stock, .. } => Checked {
             tag: b'Y',
-            texts: pen::is_text8(stock),
-            intraday: false,
+            texts: pen::is_text(stock),
+            ..FINE
         },
-        Body::ReplaceOrder(_) => Checked {
-            tag: b'U',
-            texts: true,
-            intraday: false,
-        },
+        Body::ReplaceOrder(_) => Checked { tag: b'U', ..FINE },
         Body::RetailPriceImprovementIndicator(x) => Checked {
             tag: b'N',
-            texts: pen::is_text8(x.stock),
-            intraday: false,
+            texts: pen::is_text(x.stock),
+            ..FINE
         },
         Body::StockDirectory(x) => Checked {
             tag: b'R',
-            texts: pen::is_text8(x.stock),
-            intraday: false,
+            texts: pen::is_text(x.stock),
+            ..FINE
         },
-        Body::SystemEvent { event: _ } => Checked {
-            tag: b'S',
-            texts: true,
-            intraday: false,
-        },
-        Body::TradingAction {
-            stock,
-            trading_state: _,
-            reserved: _,
-            reason,
-        } => Checked {
+        Body::SystemEvent { .. } => Checked { tag: b'S', ..FINE },
+        Body::TradingAction { stock, reason, .. } => Checked {
             tag: b'H',
-            texts: both(pen::is_text8(stock), pen::is_text4(reason)),
-            intraday: false,
+            texts: both(pen::is_text(stock), pen::is_text(reason)),
+            ..FINE
         },
-        Body::OperationalHalt {
-            stock,
-            market_code: _,
-            action: _,
-        } => Checked {
+        Body::OperationalHalt { stock, .. } => Checked {
             tag: b'h',
-            texts: pen::is_text8(stock),
-            intraday: false,
+            texts: pen::is_text(stock),
+            ..FINE
         },
         Body::DirectListing(x) => Checked {
             tag: b'O',
-            texts: pen::is_text8(x.stock),
-            intraday: false,
+            texts: pen::is_text(x.stock),
+            ..FINE
         },
     }
 }
@@ -222,10 +185,10 @@ fn put_header(buf: &mut [u8], size: u8, tag: u8, locate: u16, tracking: u16, tim
     requires { time < 256 ^ 6 }
     ensures { PutRow buf.old 0 header (size ∷ tag ∷ locate ∷ tracking ∷ time ∷ []) buf.new }
 {
-    pen::set_u16(buf, 0, size as u16);
-    pen::set_u8(buf, 2, tag);
-    pen::set_u16(buf, 3, locate);
-    pen::set_u16(buf, 5, tracking);
+    pen::set(buf, 0, size as u16);
+    pen::set(buf, 2, tag);
+    pen::set(buf, 3, locate);
+    pen::set(buf, 5, tracking);
     pen::set_u48(buf, 7, time);
 }
 
@@ -240,28 +203,28 @@ pub fn write(m: Message, buf: &mut [u8], reading: Reading) -> Written
     let body = m.body;
     let own = check_body(body);
     if tag != own.tag {
-        return Written::Refused(40);
+        return Err(WriteError::Kind);
     }
     let size = tables::size_of_tag(tag, reading);
     if size == 0 {
-        return Written::Refused(40);
+        return Err(WriteError::Kind);
     }
     let late = 0x1000000000000 <= time;
     let garbled = !own.texts;
     if late {
-        return Written::Refused(41);
+        return Err(WriteError::Time);
     }
     if garbled {
-        return Written::Refused(42);
+        return Err(WriteError::Text);
     }
     if own.intraday {
-        return Written::Refused(43);
+        return Err(WriteError::Intraday);
     }
     let n = 2 + size as usize;
     if buf.len() < n {
-        return Written::Refused(44);
+        return Err(WriteError::Room);
     }
     put_header(buf, size, tag, m.stock_locate, m.tracking_number, time);
     put_any::put_body(buf, body);
-    Written::Done(n)
+    Ok(n)
 }

@@ -1,44 +1,33 @@
 -- `added::parse_direct_listing` meets its contract.
 use mathlib.Core.Path.{refl}
 use Rattle.format.specs.Ascii.{'O'}
-use Rattle.format.specs.Meaning.{fault32, fault64, fault8, num32_m, num64_m, num8_m}
-use Rattle.format.proofs.Runs.{value, fault, body-stops, body_reads, end, ◌⨾◌, start, ◌▹◌}
-use Rattle.codes.proofs.Codes.{named, yes_no-coded}
+use Rattle.format.proofs.Runs.{body-stops, body_reads, end, ◌⨾◌, start, ◌▹◌}
+use Rattle.records.specs.Values.{values}
 use Rattle.added.proofs.parse_direct_listing.Goals as goal
 
-pub returns-in_default : goal.returns-in_default
-returns-in_default c = body-stops 'O' _ c.no_u64.result refl start (fault num64_m fault64 c.text8-f1.ensures c.in_default.is refl c.no_u64.ensures)
+pub returns-in_err-stock : goal.returns-in_err-stock
+returns-in_err-stock c = body-stops values 'O' _ _ _ refl start c.in_err-stock.ensures c.from_residual.ensures.1
 
-pub returns-in_default-f2 : goal.returns-in_default-f2
-returns-in_default-f2 c = body-stops 'O' _ c.no_u8.result refl (start ▹ value num64_m c.text8-f1.ensures c.in-Got.is) (fault num8_m fault8 c.yes_no_at-f2.ensures c.in_default-f2.is refl c.no_u8.ensures)
+pub returns-in_err-open_eligibility : goal.returns-in_err-open_eligibility
+returns-in_err-open_eligibility c = body-stops values 'O' _ _ _ refl (start ▹ c.in_ok-stock.ensures) c.in_err-open_eligibility.ensures c.from_residual-in_err-open_eligibility.ensures.1
 
-pub returns-in_default-f3 : goal.returns-in_default-f3
-returns-in_default-f3 c = body-stops 'O' _ c.no_u32.result refl (start ▹ value num64_m c.text8-f1.ensures c.in-Got.is ▹ value num8_m c.yes_no_at-f2.ensures c.in-Got-f2.is) (fault num32_m fault32 c.be_u32-f3.ensures c.in_default-f3.is refl c.no_u32.ensures)
+pub returns-in_err-minimum_price : goal.returns-in_err-minimum_price
+returns-in_err-minimum_price c = body-stops values 'O' _ _ _ refl (start ▹ c.in_ok-stock.ensures ▹ c.in_ok-open_eligibility.ensures) c.in_err-minimum_price.ensures c.from_residual-in_err-minimum_price.ensures.1
 
-pub returns-in_default-f4 : goal.returns-in_default-f4
-returns-in_default-f4 c = body-stops 'O' _ c.no_u32-in_default-f4.result refl (start ▹ value num64_m c.text8-f1.ensures c.in-Got.is ▹ value num8_m c.yes_no_at-f2.ensures c.in-Got-f2.is ▹ value num32_m c.be_u32-f3.ensures c.in-Got-f3.is) (fault num32_m fault32 c.be_u32-f4.ensures c.in_default-f4.is refl c.no_u32-in_default-f4.ensures)
+pub returns-in_err-maximum_price : goal.returns-in_err-maximum_price
+returns-in_err-maximum_price c = body-stops values 'O' _ _ _ refl (start ▹ c.in_ok-stock.ensures ▹ c.in_ok-open_eligibility.ensures ▹ c.in_ok-minimum_price.ensures) c.in_err-maximum_price.ensures c.from_residual-in_err-maximum_price.ensures.1
 
-pub returns-in_default-f5 : goal.returns-in_default-f5
-returns-in_default-f5 c = body-stops 'O' _ c.no_u32-in_default-f5.result refl (start ▹ value num64_m c.text8-f1.ensures c.in-Got.is ▹ value num8_m c.yes_no_at-f2.ensures c.in-Got-f2.is ▹ value num32_m c.be_u32-f3.ensures c.in-Got-f3.is ▹ value num32_m c.be_u32-f4.ensures c.in-Got-f4.is) (fault num32_m fault32 c.be_u32-f5.ensures c.in_default-f5.is refl c.no_u32-in_default-f5.ensures)
+pub returns-in_err-near_execution_price : goal.returns-in_err-near_execution_price
+returns-in_err-near_execution_price c = body-stops values 'O' _ _ _ refl (start ▹ c.in_ok-stock.ensures ▹ c.in_ok-open_eligibility.ensures ▹ c.in_ok-minimum_price.ensures ▹ c.in_ok-maximum_price.ensures) c.in_err-near_execution_price.ensures c.from_residual-in_err-near_execution_price.ensures.1
 
-pub returns-in_default-f6 : goal.returns-in_default-f6
-returns-in_default-f6 c = body-stops 'O' _ c.no_u64-in_default-f6.result refl (start ▹ value num64_m c.text8-f1.ensures c.in-Got.is ▹ value num8_m c.yes_no_at-f2.ensures c.in-Got-f2.is ▹ value num32_m c.be_u32-f3.ensures c.in-Got-f3.is ▹ value num32_m c.be_u32-f4.ensures c.in-Got-f4.is ▹ value num32_m c.be_u32-f5.ensures c.in-Got-f5.is) (fault num64_m fault64 c.be_u64-f6.ensures c.in_default-f6.is refl c.no_u64-in_default-f6.ensures)
+pub returns-in_err-near_execution_time : goal.returns-in_err-near_execution_time
+returns-in_err-near_execution_time c = body-stops values 'O' _ _ _ refl (start ▹ c.in_ok-stock.ensures ▹ c.in_ok-open_eligibility.ensures ▹ c.in_ok-minimum_price.ensures ▹ c.in_ok-maximum_price.ensures ▹ c.in_ok-near_execution_price.ensures) c.in_err-near_execution_time.ensures c.from_residual-in_err-near_execution_time.ensures.1
 
-pub returns-in_default-f7 : goal.returns-in_default-f7
-returns-in_default-f7 c = body-stops 'O' _ c.no_u32-in_default-f7.result refl (start ▹ value num64_m c.text8-f1.ensures c.in-Got.is ▹ value num8_m c.yes_no_at-f2.ensures c.in-Got-f2.is ▹ value num32_m c.be_u32-f3.ensures c.in-Got-f3.is ▹ value num32_m c.be_u32-f4.ensures c.in-Got-f4.is ▹ value num32_m c.be_u32-f5.ensures c.in-Got-f5.is ▹ value num64_m c.be_u64-f6.ensures c.in-Got-f6.is) (fault num32_m fault32 c.be_u32-f7.ensures c.in_default-f7.is refl c.no_u32-in_default-f7.ensures)
+pub returns-in_err-lower_collar : goal.returns-in_err-lower_collar
+returns-in_err-lower_collar c = body-stops values 'O' _ _ _ refl (start ▹ c.in_ok-stock.ensures ▹ c.in_ok-open_eligibility.ensures ▹ c.in_ok-minimum_price.ensures ▹ c.in_ok-maximum_price.ensures ▹ c.in_ok-near_execution_price.ensures ▹ c.in_ok-near_execution_time.ensures) c.in_err-lower_collar.ensures c.from_residual-in_err-lower_collar.ensures.1
 
-pub returns-in_default-f8 : goal.returns-in_default-f8
-returns-in_default-f8 c = body-stops 'O' _ c.no_u32-in_default-f8.result refl (start ▹ value num64_m c.text8-f1.ensures c.in-Got.is ▹ value num8_m c.yes_no_at-f2.ensures c.in-Got-f2.is ▹ value num32_m c.be_u32-f3.ensures c.in-Got-f3.is ▹ value num32_m c.be_u32-f4.ensures c.in-Got-f4.is ▹ value num32_m c.be_u32-f5.ensures c.in-Got-f5.is ▹ value num64_m c.be_u64-f6.ensures c.in-Got-f6.is ▹ value num32_m c.be_u32-f7.ensures c.in-Got-f7.is) (fault num32_m fault32 c.be_u32-f8.ensures c.in_default-f8.is refl c.no_u32-in_default-f8.ensures)
+pub returns-in_err-upper_collar : goal.returns-in_err-upper_collar
+returns-in_err-upper_collar c = body-stops values 'O' _ _ _ refl (start ▹ c.in_ok-stock.ensures ▹ c.in_ok-open_eligibility.ensures ▹ c.in_ok-minimum_price.ensures ▹ c.in_ok-maximum_price.ensures ▹ c.in_ok-near_execution_price.ensures ▹ c.in_ok-near_execution_time.ensures ▹ c.in_ok-lower_collar.ensures) c.in_err-upper_collar.ensures c.from_residual-in_err-upper_collar.ensures.1
 
 pub returns : goal.returns
-returns c =
-    body_reads 'O' _ refl
-    (value num64_m c.text8-f1.ensures c.in-Got.is
-    ⨾ named yes_no-coded _ _ (value num8_m c.yes_no_at-f2.ensures c.in-Got-f2.is) c.yes_no_of.ensures
-    ⨾ value num32_m c.be_u32-f3.ensures c.in-Got-f3.is
-    ⨾ value num32_m c.be_u32-f4.ensures c.in-Got-f4.is
-    ⨾ value num32_m c.be_u32-f5.ensures c.in-Got-f5.is
-    ⨾ value num64_m c.be_u64-f6.ensures c.in-Got-f6.is
-    ⨾ value num32_m c.be_u32-f7.ensures c.in-Got-f7.is
-    ⨾ value num32_m c.be_u32-f8.ensures c.in-Got-f8.is
-    ⨾ end)
+returns c = body_reads 'O' _ refl (c.in_ok-stock.ensures ⨾ c.in_ok-open_eligibility.ensures ⨾ c.in_ok-minimum_price.ensures ⨾ c.in_ok-maximum_price.ensures ⨾ c.in_ok-near_execution_price.ensures ⨾ c.in_ok-near_execution_time.ensures ⨾ c.in_ok-lower_collar.ensures ⨾ c.in_ok-upper_collar.ensures ⨾ end)

@@ -8,12 +8,16 @@ use Rattle.call_list.proofs.asks.Goals as goal
 
 pub loop-k-init : goal.loop-k-init
 unfolding asks_of
-loop-k-init c = (omega arith, refl, refl)
+loop-k-init c = (refl, refl)
 
 pub loop-k-preserved : goal.loop-k-preserved
-loop-k-preserved c = (omega arith, length-set c.loop-k.v c.loop-k.k c.number.result ∙ c.loop-k.invariant.1, rw c.number.ensures (asks-more c.args.t.now c.loop-k.v c.loop-k.k (omega arith) c.loop-k.invariant.2))
+loop-k-preserved c =
+    let l = c.loop-k in (
+      length-set l.x-items l.k c.number.result ∙ l.invariant.0,
+      rw c.number.ensures (asks-more c.args.t.now l.x-items l.k (omega arith) l.invariant.1),
+    )
 
 pub returns : goal.returns
 returns c =
     let z : c.loop-k.k ≡ 17 = omega arith in
-    sym (take_all 17 c.loop-k.v (omega arith)) ∙ (rw z at c.loop-k.invariant.2)
+    sym (take_all 17 c.loop-k.x-items (omega arith)) ∙ (rw z at c.loop-k.invariant.1)

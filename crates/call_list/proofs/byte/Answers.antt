@@ -1,19 +1,17 @@
 -- `call_list::byte` meets its contract.
-use Prim.Native.Nat.{◌+◌}
-use lib.ListN.{length}
-use native.Mathlib.Omega.{arith}
-use borrow.Author.Tests.{lt-leb, le-leb, lt-ltb, le-ltb}
-use Rattle.call_list.specs.Calls.{byte_at}
+use mathlib.Core.Path.{sym, ◌∙◌}
+use Rattle.call_list.proofs.Laws.{byte_before, byte-explicit, byte-behind}
 use Rattle.call_list.proofs.byte.Goals as goal
 
 pub returns-then-i-place : goal.returns-then-i-place
-unfolding byte_at
-returns-then-i-place c = rw (lt-leb _ _ c.if-i-place.true) c.fill_byte.ensures
+returns-then-i-place c = c.fill_byte.ensures ∙ sym (byte_before c.args.fill c.args.place c.args.explicit.now c.args.i c.if-i-place.true)
 
-pub returns-then-k-explicit : goal.returns-then-k-explicit
-unfolding byte_at
-returns-then-k-explicit c = rw (le-leb _ _ c.if-i-place.false, lt-ltb c.args.i (c.args.place + length c.args.explicit.now) (omega arith))
+pub returns-in-Some : goal.returns-in-Some
+returns-in-Some c =
+    let h = c.in-Some.ensures.lookup in
+    h.3.1 0 ∙ sym (byte-explicit c.args.fill c.args.place c.args.explicit.now c.args.i c.if-i-place.false h.3.0)
 
-pub returns : goal.returns
-unfolding byte_at
-returns c = rw (le-leb _ _ c.if-i-place.false, le-ltb c.args.i (c.args.place + length c.args.explicit.now) (omega arith)) c.fill_byte-2.ensures
+pub returns-in-None : goal.returns-in-None
+returns-in-None c =
+    let h = c.in-None.ensures.lookup in
+    c.fill_byte-in-None.ensures ∙ sym (byte-behind c.args.fill c.args.place c.args.explicit.now c.args.i c.if-i-place.false h.3)

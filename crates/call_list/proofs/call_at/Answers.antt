@@ -6,10 +6,3 @@ use Rattle.call_list.proofs.call_at.Goals as goal
 
 pub overflow_sub-result : goal.overflow_sub-result
 overflow_sub-result c = omega (arith, simp length-drop at (ap length c.rest-t.ensures), simp length-drop at (ap length c.rest-from_a.ensures), simp length-drop at (ap length c.rest-from_b.ensures), simp length-drop at (ap length c.rest-from_next.ensures))
-
-pub returns : goal.returns
-returns c = record {
-  value = simp (c.least-na.ensures, c.least-nb.ensures, c.rest-from_next.ensures, c.rest-from_b.ensures, c.rest-from_a.ensures, c.asks-v.ensures, c.rest-t.ensures);
-  a_after = simp (c.make.ensures, c.first.ensures, c.least-na.ensures, c.rest-from_a.ensures, c.asks-v.ensures, c.rest-t.ensures);
-  b_after = simp (c.make-2.ensures, c.first-2.ensures, c.least-nb.ensures, c.rest-from_b.ensures, c.rest-from_a.ensures, c.asks-v.ensures, c.rest-t.ensures);
-}

@@ -1,5 +1,4 @@
 -- `call_list::make` meets its contract.
-use Prim.Native.Nat.{◌-◌, ◌≤◌}
 use mathlib.Core.List.{◌++◌}
 use mathlib.Core.Path.{◌≡◌}
 use lib.ListN.{drop}
@@ -7,7 +6,4 @@ use Rattle.call_list.specs.Calls.{made_of}
 use Rattle.call_list.proofs.make.Given as goal
 
 abbrev pub invariant-loop-i : goal.invariant-loop-i
-invariant-loop-i l = (l.i ≤ l.n) × (l.room ≡ made_of l.fill l.place l.explicit l.i ++ drop l.i l.initial.room)
-
-abbrev pub decreases-loop-i : goal.decreases-loop-i
-decreases-loop-i l = l.n - l.i
+invariant-loop-i l = l.room ≡ made_of l.fill l.place l.explicit l.i ++ drop l.i l.fn.room

@@ -29,4 +29,4 @@ returns c =
     let a = ready-is _ (sym c.ready.ensures ∙ c.if-not-ready.false) in
     let h = roomy c.args.s _ m.result m.ensures.value a in
     one-read c.args.s _ _ m.result m.new.buf _ _ m.ensures.value a m.ensures.buf_after (omega (arith, h.whole, h.free, m.auto.buf)) (search rules) m.auto.buf
-    c.read-brought.ensures c.tell-step.ensures
+    c.read-brought.ensures c.tell.ensures

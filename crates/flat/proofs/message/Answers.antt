@@ -1,7 +1,5 @@
 -- `flat::message` meets its contract.
-use Rattle.records.specs.Values.{values}
-use Rattle.flat.proofs.Answers.{first-number}
 use Rattle.flat.proofs.message.Goals as goal
 
 pub returns : goal.returns
-returns c = rw (c.body_numbers-v.ensures, first-number 14 (values c.args.m.body))
+returns c = rw (c.body_numbers-v.ensures, c.from.ensures, c.from-2.ensures, c.from-3.ensures)

@@ -1,9 +1,6 @@
--- `framing::print_frames` meets its contract.
-use Prim.Native.Nat.{ℕ}
-use mathlib.Core.Path.{sym, ap, ◌∙◌}
-use mathlib.Core.List.{List}
-use native.Mathlib.Omega.{arith}
-use lib.ListN.{length, length-take}
+-- The closing lines are those of the state that was sent; or a write was not taken.
+use Rattle.std.proofs.Common.{sym, ap, ◌∙◌, ℕ, List, length, rules, arith}
+use lib.ListN.{length-take}
 use Rattle.walk.specs.declared.Walk.{Walk}
 use Rattle.demand.proofs.Demand3.{reached-reading}
 use Rattle.lines.specs.Lines.{closing_of}
@@ -11,30 +8,32 @@ use Rattle.text.proofs.Laws.{wrote-long, wrote-front}
 use Rattle.framing.specs.Told.{whole, failed}
 use Rattle.framing.proofs.Stops.{reached-sane}
 use Rattle.framing.proofs.Loop.{closes}
-use borrow.Author.Rules.{rules}
 use Rattle.framing.proofs.print_frames.Goals as goal
+use Rattle.framing.proofs.print_frames.Goals.{then-taken, else-taken}
 
 abbrev closing_at : Walk → List ℕ
 closing_at w = closing_of w.offset w.seen w.frames w.accepted
 
-pub returns-then-not-taken : goal.returns-then-not-taken
-returns-then-not-taken g c = failed (sym c.taken.ensures ∙ c.if-not-taken.true)
-
 pub closing-n-requires : goal.closing-n-requires
-closing-n-requires g c = (rw c.state-state.ensures (reached-sane c.read_all-t.ensures.reached), search rules)
+closing-n-requires g c = (rw c.state.ensures (reached-sane c.read_all-run.ensures.reached), search rules)
 
 pub slice_bounds-close-end : goal.slice_bounds-close-end
 slice_bounds-close-end g c = simp length-take (omega (arith, c.closing-n.ensures.inside, wrote-long c.closing-n.ensures))
 
-pub close-last-requires : goal.close-last-requires
-close-last-requires g c =
-    closes _ _ _ _ c.read_all-t.ensures (sym c.taken.ensures ∙ c.if-not-taken.false)
-    (wrote-front c.closing-n.ensures ∙ ap closing_at c.state-state.ensures)
+pub close-run-requires : goal.close-run-requires
+close-run-requires g c =
+    closes _ _ _ _ c.read_all-run.ensures (sym c.taken.ensures ∙ c.if-taken.true) (wrote-front c.closing-n.ensures ∙ ap closing_at c.state.ensures)
 
 pub returns : goal.returns
 returns g c =
-    whole (c.close-last.ensures.quiet_value ∙ c.read_all-t.ensures.told)
-    (ap (λ (w : Walk). w.reading) c.close-last.ensures.state_value ∙ reached-reading c.read_all-t.ensures.reached ∙ c.reading-reading.ensures)
-    c.close-last.ensures.closed_value
-    (c.close-last.ensures.bytes_value
-    ∙ ap length (wrote-front c.closing-n.ensures ∙ ap closing_at (c.state-state.ensures ∙ sym c.close-last.ensures.state_value)))
+    elim c.if-taken.branch [
+      | then-taken w ↦
+          rw w.run-is
+          (whole (w.close-run.ensures.quiet_value ∙ c.read_all-run.ensures.told ∙ c.begun-begun.ensures.quiet_value)
+          (ap (λ (x : Walk). x.reading) w.close-run.ensures.state_value ∙ reached-reading c.read_all-run.ensures.reached
+          ∙ ap (λ (x : Walk). x.reading) c.begun-begun.ensures.state_value ∙ c.from.ensures)
+          w.close-run.ensures.closed_value
+          (w.close-run.ensures.bytes_value
+          ∙ ap length (wrote-front w.closing-n.ensures ∙ ap closing_at (w.state.ensures ∙ sym w.close-run.ensures.state_value))))
+      | else-taken w ↦ rw w.run-is (failed (sym c.taken.ensures ∙ w.if-taken.false))
+    ]

@@ -1,13 +1,16 @@
--- `framing::put_block` meets its contract.
-use Prim.Native.Nat.{◌≤◌, ◌-◌}
-use mathlib.Core.Path.{◌≡◌}
-use mathlib.Core.Bool.{true}
-use lib.ListN.{length}
+-- The calls so far, from what was sent first on.
+use Rattle.std.proofs.Common.{◌≡◌, ◌≤◌, ◌-◌, true, length}
 use Rattle.framing.proofs.Loop.{In}
 use Rattle.framing.proofs.put_block.Given as goal
 
 abbrev pub invariant-loop-from : goal.invariant-loop-from
-invariant-loop-from l = In l.quiet l.initial.sent.state.reading l.block l.initial.sent.state l.sent.state l.from × (l.sent.quiet ≡ l.quiet) × (l.sent.written.taken ≡ true) × (length l.out ≡ length l.initial.out) × (137 ≤ length l.initial.out)
+invariant-loop-from l = record {
+  calls : In l.fn.s.quiet l.fn.s.state.reading l.block l.fn.s.state l.sent.state l.from;
+  told : l.sent.quiet ≡ l.fn.s.quiet;
+  good : l.sent.written.taken ≡ true;
+  long : length l.out ≡ length l.initial.out;
+  wide : 137 ≤ length l.out;
+}
 
 abbrev pub decreases-loop-from : goal.decreases-loop-from
 decreases-loop-from l = length l.block - l.from

@@ -1,31 +1,24 @@
 -- `notices::parse_luld_auction_collar` meets its contract.
 use mathlib.Core.Path.{refl}
 use Rattle.format.specs.Ascii.{'J'}
-use Rattle.format.specs.Meaning.{fault32, fault64, num32_m, num64_m}
-use Rattle.format.proofs.Runs.{value, fault, body-stops, body_reads, end, ◌⨾◌, start, ◌▹◌}
+use Rattle.format.proofs.Runs.{body-stops, body_reads, end, ◌⨾◌, start, ◌▹◌}
+use Rattle.records.specs.Values.{values}
 use Rattle.notices.proofs.parse_luld_auction_collar.Goals as goal
 
-pub returns-in_default : goal.returns-in_default
-returns-in_default c = body-stops 'J' _ c.no_u64.result refl start (fault num64_m fault64 c.text8-f1.ensures c.in_default.is refl c.no_u64.ensures)
+pub returns-in_err-stock : goal.returns-in_err-stock
+returns-in_err-stock c = body-stops values 'J' _ _ _ refl start c.in_err-stock.ensures c.from_residual.ensures.1
 
-pub returns-in_default-f2 : goal.returns-in_default-f2
-returns-in_default-f2 c = body-stops 'J' _ c.no_u32.result refl (start ▹ value num64_m c.text8-f1.ensures c.in-Got.is) (fault num32_m fault32 c.be_u32-f2.ensures c.in_default-f2.is refl c.no_u32.ensures)
+pub returns-in_err-ref_price : goal.returns-in_err-ref_price
+returns-in_err-ref_price c = body-stops values 'J' _ _ _ refl (start ▹ c.in_ok-stock.ensures) c.in_err-ref_price.ensures c.from_residual-in_err-ref_price.ensures.1
 
-pub returns-in_default-f3 : goal.returns-in_default-f3
-returns-in_default-f3 c = body-stops 'J' _ c.no_u32-in_default-f3.result refl (start ▹ value num64_m c.text8-f1.ensures c.in-Got.is ▹ value num32_m c.be_u32-f2.ensures c.in-Got-f2.is) (fault num32_m fault32 c.be_u32-f3.ensures c.in_default-f3.is refl c.no_u32-in_default-f3.ensures)
+pub returns-in_err-upper_price : goal.returns-in_err-upper_price
+returns-in_err-upper_price c = body-stops values 'J' _ _ _ refl (start ▹ c.in_ok-stock.ensures ▹ c.in_ok-ref_price.ensures) c.in_err-upper_price.ensures c.from_residual-in_err-upper_price.ensures.1
 
-pub returns-in_default-f4 : goal.returns-in_default-f4
-returns-in_default-f4 c = body-stops 'J' _ c.no_u32-in_default-f4.result refl (start ▹ value num64_m c.text8-f1.ensures c.in-Got.is ▹ value num32_m c.be_u32-f2.ensures c.in-Got-f2.is ▹ value num32_m c.be_u32-f3.ensures c.in-Got-f3.is) (fault num32_m fault32 c.be_u32-f4.ensures c.in_default-f4.is refl c.no_u32-in_default-f4.ensures)
+pub returns-in_err-lower_price : goal.returns-in_err-lower_price
+returns-in_err-lower_price c = body-stops values 'J' _ _ _ refl (start ▹ c.in_ok-stock.ensures ▹ c.in_ok-ref_price.ensures ▹ c.in_ok-upper_price.ensures) c.in_err-lower_price.ensures c.from_residual-in_err-lower_price.ensures.1
 
-pub returns-in_default-f5 : goal.returns-in_default-f5
-returns-in_default-f5 c = body-stops 'J' _ c.no_u32-in_default-f5.result refl (start ▹ value num64_m c.text8-f1.ensures c.in-Got.is ▹ value num32_m c.be_u32-f2.ensures c.in-Got-f2.is ▹ value num32_m c.be_u32-f3.ensures c.in-Got-f3.is ▹ value num32_m c.be_u32-f4.ensures c.in-Got-f4.is) (fault num32_m fault32 c.be_u32-f5.ensures c.in_default-f5.is refl c.no_u32-in_default-f5.ensures)
+pub returns-in_err-extension : goal.returns-in_err-extension
+returns-in_err-extension c = body-stops values 'J' _ _ _ refl (start ▹ c.in_ok-stock.ensures ▹ c.in_ok-ref_price.ensures ▹ c.in_ok-upper_price.ensures ▹ c.in_ok-lower_price.ensures) c.in_err-extension.ensures c.from_residual-in_err-extension.ensures.1
 
 pub returns : goal.returns
-returns c =
-    body_reads 'J' _ refl
-    (value num64_m c.text8-f1.ensures c.in-Got.is
-    ⨾ value num32_m c.be_u32-f2.ensures c.in-Got-f2.is
-    ⨾ value num32_m c.be_u32-f3.ensures c.in-Got-f3.is
-    ⨾ value num32_m c.be_u32-f4.ensures c.in-Got-f4.is
-    ⨾ value num32_m c.be_u32-f5.ensures c.in-Got-f5.is
-    ⨾ end)
+returns c = body_reads 'J' _ refl (c.in_ok-stock.ensures ⨾ c.in_ok-ref_price.ensures ⨾ c.in_ok-upper_price.ensures ⨾ c.in_ok-lower_price.ensures ⨾ c.in_ok-extension.ensures ⨾ end)

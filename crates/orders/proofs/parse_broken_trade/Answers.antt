@@ -1,15 +1,12 @@
 -- `orders::parse_broken_trade` meets its contract.
 use mathlib.Core.Path.{refl}
 use Rattle.format.specs.Ascii.{'B'}
-use Rattle.format.specs.Meaning.{fault64, num64_m}
-use Rattle.format.proofs.Runs.{value, fault, body-stops, body_reads, end, ◌⨾◌, start}
+use Rattle.format.proofs.Runs.{body-stops, body_reads, end, ◌⨾◌, start}
+use Rattle.records.specs.Values.{values}
 use Rattle.orders.proofs.parse_broken_trade.Goals as goal
 
-pub returns-in_default : goal.returns-in_default
-returns-in_default c = body-stops 'B' _ c.no_u64.result refl start (fault num64_m fault64 c.be_u64-f1.ensures c.in_default.is refl c.no_u64.ensures)
+pub returns-in_err-match_number : goal.returns-in_err-match_number
+returns-in_err-match_number c = body-stops values 'B' _ _ _ refl start c.in_err-match_number.ensures c.from_residual.ensures.1
 
 pub returns : goal.returns
-returns c =
-    body_reads 'B' _ refl
-    (value num64_m c.be_u64-f1.ensures c.in-Got.is
-    ⨾ end)
+returns c = body_reads 'B' _ refl (c.in_ok-match_number.ensures ⨾ end)

@@ -1,32 +1,24 @@
 -- `orders::parse_cross_trade` meets its contract.
 use mathlib.Core.Path.{refl}
 use Rattle.format.specs.Ascii.{'Q'}
-use Rattle.format.specs.Meaning.{fault32, fault64, fault8, num32_m, num64_m, num8_m}
-use Rattle.format.proofs.Runs.{value, fault, body-stops, body_reads, end, ◌⨾◌, start, ◌▹◌}
-use Rattle.codes.proofs.Codes.{named, cross-coded}
+use Rattle.format.proofs.Runs.{body-stops, body_reads, end, ◌⨾◌, start, ◌▹◌}
+use Rattle.records.specs.Values.{values}
 use Rattle.orders.proofs.parse_cross_trade.Goals as goal
 
-pub returns-in_default : goal.returns-in_default
-returns-in_default c = body-stops 'Q' _ c.no_u64.result refl start (fault num64_m fault64 c.be_u64-f1.ensures c.in_default.is refl c.no_u64.ensures)
+pub returns-in_err-shares : goal.returns-in_err-shares
+returns-in_err-shares c = body-stops values 'Q' _ _ _ refl start c.in_err-shares.ensures c.from_residual.ensures.1
 
-pub returns-in_default-f2 : goal.returns-in_default-f2
-returns-in_default-f2 c = body-stops 'Q' _ c.no_u64-in_default-f2.result refl (start ▹ value num64_m c.be_u64-f1.ensures c.in-Got.is) (fault num64_m fault64 c.text8-f2.ensures c.in_default-f2.is refl c.no_u64-in_default-f2.ensures)
+pub returns-in_err-stock : goal.returns-in_err-stock
+returns-in_err-stock c = body-stops values 'Q' _ _ _ refl (start ▹ c.in_ok-shares.ensures) c.in_err-stock.ensures c.from_residual-in_err-stock.ensures.1
 
-pub returns-in_default-f3 : goal.returns-in_default-f3
-returns-in_default-f3 c = body-stops 'Q' _ c.no_u32.result refl (start ▹ value num64_m c.be_u64-f1.ensures c.in-Got.is ▹ value num64_m c.text8-f2.ensures c.in-Got-f2.is) (fault num32_m fault32 c.be_u32-f3.ensures c.in_default-f3.is refl c.no_u32.ensures)
+pub returns-in_err-cross_price : goal.returns-in_err-cross_price
+returns-in_err-cross_price c = body-stops values 'Q' _ _ _ refl (start ▹ c.in_ok-shares.ensures ▹ c.in_ok-stock.ensures) c.in_err-cross_price.ensures c.from_residual-in_err-cross_price.ensures.1
 
-pub returns-in_default-f4 : goal.returns-in_default-f4
-returns-in_default-f4 c = body-stops 'Q' _ c.no_u64-in_default-f4.result refl (start ▹ value num64_m c.be_u64-f1.ensures c.in-Got.is ▹ value num64_m c.text8-f2.ensures c.in-Got-f2.is ▹ value num32_m c.be_u32-f3.ensures c.in-Got-f3.is) (fault num64_m fault64 c.be_u64-f4.ensures c.in_default-f4.is refl c.no_u64-in_default-f4.ensures)
+pub returns-in_err-match_number : goal.returns-in_err-match_number
+returns-in_err-match_number c = body-stops values 'Q' _ _ _ refl (start ▹ c.in_ok-shares.ensures ▹ c.in_ok-stock.ensures ▹ c.in_ok-cross_price.ensures) c.in_err-match_number.ensures c.from_residual-in_err-match_number.ensures.1
 
-pub returns-in_default-f5 : goal.returns-in_default-f5
-returns-in_default-f5 c = body-stops 'Q' _ c.no_u8.result refl (start ▹ value num64_m c.be_u64-f1.ensures c.in-Got.is ▹ value num64_m c.text8-f2.ensures c.in-Got-f2.is ▹ value num32_m c.be_u32-f3.ensures c.in-Got-f3.is ▹ value num64_m c.be_u64-f4.ensures c.in-Got-f4.is) (fault num8_m fault8 c.cross_at-f5.ensures c.in_default-f5.is refl c.no_u8.ensures)
+pub returns-in_err-cross_type : goal.returns-in_err-cross_type
+returns-in_err-cross_type c = body-stops values 'Q' _ _ _ refl (start ▹ c.in_ok-shares.ensures ▹ c.in_ok-stock.ensures ▹ c.in_ok-cross_price.ensures ▹ c.in_ok-match_number.ensures) c.in_err-cross_type.ensures c.from_residual-in_err-cross_type.ensures.1
 
 pub returns : goal.returns
-returns c =
-    body_reads 'Q' _ refl
-    (value num64_m c.be_u64-f1.ensures c.in-Got.is
-    ⨾ value num64_m c.text8-f2.ensures c.in-Got-f2.is
-    ⨾ value num32_m c.be_u32-f3.ensures c.in-Got-f3.is
-    ⨾ value num64_m c.be_u64-f4.ensures c.in-Got-f4.is
-    ⨾ named cross-coded _ _ (value num8_m c.cross_at-f5.ensures c.in-Got-f5.is) c.cross_of.ensures
-    ⨾ end)
+returns c = body_reads 'Q' _ refl (c.in_ok-shares.ensures ⨾ c.in_ok-stock.ensures ⨾ c.in_ok-cross_price.ensures ⨾ c.in_ok-match_number.ensures ⨾ c.in_ok-cross_type.ensures ⨾ end)

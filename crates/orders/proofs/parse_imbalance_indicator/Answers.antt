@@ -1,48 +1,36 @@
 -- `orders::parse_imbalance_indicator` meets its contract.
 use mathlib.Core.Path.{refl}
 use Rattle.format.specs.Ascii.{'I'}
-use Rattle.format.specs.Meaning.{fault32, fault64, fault8, num32_m, num64_m, num8_m}
-use Rattle.format.proofs.Runs.{value, fault, body-stops, body_reads, end, ◌⨾◌, start, ◌▹◌}
-use Rattle.codes.proofs.Codes.{named, direction-coded, imbalance_cross-coded}
+use Rattle.format.proofs.Runs.{body-stops, body_reads, end, ◌⨾◌, start, ◌▹◌}
+use Rattle.records.specs.Values.{values}
 use Rattle.orders.proofs.parse_imbalance_indicator.Goals as goal
 
-pub returns-in_default : goal.returns-in_default
-returns-in_default c = body-stops 'I' _ c.no_u64.result refl start (fault num64_m fault64 c.be_u64-f1.ensures c.in_default.is refl c.no_u64.ensures)
+pub returns-in_err-paired_shares : goal.returns-in_err-paired_shares
+returns-in_err-paired_shares c = body-stops values 'I' _ _ _ refl start c.in_err-paired_shares.ensures c.from_residual.ensures.1
 
-pub returns-in_default-f2 : goal.returns-in_default-f2
-returns-in_default-f2 c = body-stops 'I' _ c.no_u64-in_default-f2.result refl (start ▹ value num64_m c.be_u64-f1.ensures c.in-Got.is) (fault num64_m fault64 c.be_u64-f2.ensures c.in_default-f2.is refl c.no_u64-in_default-f2.ensures)
+pub returns-in_err-imbalance_shares : goal.returns-in_err-imbalance_shares
+returns-in_err-imbalance_shares c = body-stops values 'I' _ _ _ refl (start ▹ c.in_ok-paired_shares.ensures) c.in_err-imbalance_shares.ensures c.from_residual-in_err-imbalance_shares.ensures.1
 
-pub returns-in_default-f3 : goal.returns-in_default-f3
-returns-in_default-f3 c = body-stops 'I' _ c.no_u8.result refl (start ▹ value num64_m c.be_u64-f1.ensures c.in-Got.is ▹ value num64_m c.be_u64-f2.ensures c.in-Got-f2.is) (fault num8_m fault8 c.direction_at-f3.ensures c.in_default-f3.is refl c.no_u8.ensures)
+pub returns-in_err-imbalance_direction : goal.returns-in_err-imbalance_direction
+returns-in_err-imbalance_direction c = body-stops values 'I' _ _ _ refl (start ▹ c.in_ok-paired_shares.ensures ▹ c.in_ok-imbalance_shares.ensures) c.in_err-imbalance_direction.ensures c.from_residual-in_err-imbalance_direction.ensures.1
 
-pub returns-in_default-f4 : goal.returns-in_default-f4
-returns-in_default-f4 c = body-stops 'I' _ c.no_u64-in_default-f4.result refl (start ▹ value num64_m c.be_u64-f1.ensures c.in-Got.is ▹ value num64_m c.be_u64-f2.ensures c.in-Got-f2.is ▹ value num8_m c.direction_at-f3.ensures c.in-Got-f3.is) (fault num64_m fault64 c.text8-f4.ensures c.in_default-f4.is refl c.no_u64-in_default-f4.ensures)
+pub returns-in_err-stock : goal.returns-in_err-stock
+returns-in_err-stock c = body-stops values 'I' _ _ _ refl (start ▹ c.in_ok-paired_shares.ensures ▹ c.in_ok-imbalance_shares.ensures ▹ c.in_ok-imbalance_direction.ensures) c.in_err-stock.ensures c.from_residual-in_err-stock.ensures.1
 
-pub returns-in_default-f5 : goal.returns-in_default-f5
-returns-in_default-f5 c = body-stops 'I' _ c.no_u32.result refl (start ▹ value num64_m c.be_u64-f1.ensures c.in-Got.is ▹ value num64_m c.be_u64-f2.ensures c.in-Got-f2.is ▹ value num8_m c.direction_at-f3.ensures c.in-Got-f3.is ▹ value num64_m c.text8-f4.ensures c.in-Got-f4.is) (fault num32_m fault32 c.be_u32-f5.ensures c.in_default-f5.is refl c.no_u32.ensures)
+pub returns-in_err-far_price : goal.returns-in_err-far_price
+returns-in_err-far_price c = body-stops values 'I' _ _ _ refl (start ▹ c.in_ok-paired_shares.ensures ▹ c.in_ok-imbalance_shares.ensures ▹ c.in_ok-imbalance_direction.ensures ▹ c.in_ok-stock.ensures) c.in_err-far_price.ensures c.from_residual-in_err-far_price.ensures.1
 
-pub returns-in_default-f6 : goal.returns-in_default-f6
-returns-in_default-f6 c = body-stops 'I' _ c.no_u32-in_default-f6.result refl (start ▹ value num64_m c.be_u64-f1.ensures c.in-Got.is ▹ value num64_m c.be_u64-f2.ensures c.in-Got-f2.is ▹ value num8_m c.direction_at-f3.ensures c.in-Got-f3.is ▹ value num64_m c.text8-f4.ensures c.in-Got-f4.is ▹ value num32_m c.be_u32-f5.ensures c.in-Got-f5.is) (fault num32_m fault32 c.be_u32-f6.ensures c.in_default-f6.is refl c.no_u32-in_default-f6.ensures)
+pub returns-in_err-near_price : goal.returns-in_err-near_price
+returns-in_err-near_price c = body-stops values 'I' _ _ _ refl (start ▹ c.in_ok-paired_shares.ensures ▹ c.in_ok-imbalance_shares.ensures ▹ c.in_ok-imbalance_direction.ensures ▹ c.in_ok-stock.ensures ▹ c.in_ok-far_price.ensures) c.in_err-near_price.ensures c.from_residual-in_err-near_price.ensures.1
 
-pub returns-in_default-f7 : goal.returns-in_default-f7
-returns-in_default-f7 c = body-stops 'I' _ c.no_u32-in_default-f7.result refl (start ▹ value num64_m c.be_u64-f1.ensures c.in-Got.is ▹ value num64_m c.be_u64-f2.ensures c.in-Got-f2.is ▹ value num8_m c.direction_at-f3.ensures c.in-Got-f3.is ▹ value num64_m c.text8-f4.ensures c.in-Got-f4.is ▹ value num32_m c.be_u32-f5.ensures c.in-Got-f5.is ▹ value num32_m c.be_u32-f6.ensures c.in-Got-f6.is) (fault num32_m fault32 c.be_u32-f7.ensures c.in_default-f7.is refl c.no_u32-in_default-f7.ensures)
+pub returns-in_err-current_ref_price : goal.returns-in_err-current_ref_price
+returns-in_err-current_ref_price c = body-stops values 'I' _ _ _ refl (start ▹ c.in_ok-paired_shares.ensures ▹ c.in_ok-imbalance_shares.ensures ▹ c.in_ok-imbalance_direction.ensures ▹ c.in_ok-stock.ensures ▹ c.in_ok-far_price.ensures ▹ c.in_ok-near_price.ensures) c.in_err-current_ref_price.ensures c.from_residual-in_err-current_ref_price.ensures.1
 
-pub returns-in_default-f8 : goal.returns-in_default-f8
-returns-in_default-f8 c = body-stops 'I' _ c.no_u8-in_default-f8.result refl (start ▹ value num64_m c.be_u64-f1.ensures c.in-Got.is ▹ value num64_m c.be_u64-f2.ensures c.in-Got-f2.is ▹ value num8_m c.direction_at-f3.ensures c.in-Got-f3.is ▹ value num64_m c.text8-f4.ensures c.in-Got-f4.is ▹ value num32_m c.be_u32-f5.ensures c.in-Got-f5.is ▹ value num32_m c.be_u32-f6.ensures c.in-Got-f6.is ▹ value num32_m c.be_u32-f7.ensures c.in-Got-f7.is) (fault num8_m fault8 c.imbalance_cross_at-f8.ensures c.in_default-f8.is refl c.no_u8-in_default-f8.ensures)
+pub returns-in_err-cross_type : goal.returns-in_err-cross_type
+returns-in_err-cross_type c = body-stops values 'I' _ _ _ refl (start ▹ c.in_ok-paired_shares.ensures ▹ c.in_ok-imbalance_shares.ensures ▹ c.in_ok-imbalance_direction.ensures ▹ c.in_ok-stock.ensures ▹ c.in_ok-far_price.ensures ▹ c.in_ok-near_price.ensures ▹ c.in_ok-current_ref_price.ensures) c.in_err-cross_type.ensures c.from_residual-in_err-cross_type.ensures.1
 
-pub returns-in_default-f9 : goal.returns-in_default-f9
-returns-in_default-f9 c = body-stops 'I' _ c.no_u8-in_default-f9.result refl (start ▹ value num64_m c.be_u64-f1.ensures c.in-Got.is ▹ value num64_m c.be_u64-f2.ensures c.in-Got-f2.is ▹ value num8_m c.direction_at-f3.ensures c.in-Got-f3.is ▹ value num64_m c.text8-f4.ensures c.in-Got-f4.is ▹ value num32_m c.be_u32-f5.ensures c.in-Got-f5.is ▹ value num32_m c.be_u32-f6.ensures c.in-Got-f6.is ▹ value num32_m c.be_u32-f7.ensures c.in-Got-f7.is ▹ value num8_m c.imbalance_cross_at-f8.ensures c.in-Got-f8.is) (fault num8_m fault8 c.be_u8-f9.ensures c.in_default-f9.is refl c.no_u8-in_default-f9.ensures)
+pub returns-in_err-price_variation_indicator : goal.returns-in_err-price_variation_indicator
+returns-in_err-price_variation_indicator c = body-stops values 'I' _ _ _ refl (start ▹ c.in_ok-paired_shares.ensures ▹ c.in_ok-imbalance_shares.ensures ▹ c.in_ok-imbalance_direction.ensures ▹ c.in_ok-stock.ensures ▹ c.in_ok-far_price.ensures ▹ c.in_ok-near_price.ensures ▹ c.in_ok-current_ref_price.ensures ▹ c.in_ok-cross_type.ensures) c.in_err-price_variation_indicator.ensures c.from_residual-in_err-price_variation_indicator.ensures.1
 
 pub returns : goal.returns
-returns c =
-    body_reads 'I' _ refl
-    (value num64_m c.be_u64-f1.ensures c.in-Got.is
-    ⨾ value num64_m c.be_u64-f2.ensures c.in-Got-f2.is
-    ⨾ named direction-coded _ _ (value num8_m c.direction_at-f3.ensures c.in-Got-f3.is) c.direction_of.ensures
-    ⨾ value num64_m c.text8-f4.ensures c.in-Got-f4.is
-    ⨾ value num32_m c.be_u32-f5.ensures c.in-Got-f5.is
-    ⨾ value num32_m c.be_u32-f6.ensures c.in-Got-f6.is
-    ⨾ value num32_m c.be_u32-f7.ensures c.in-Got-f7.is
-    ⨾ named imbalance_cross-coded _ _ (value num8_m c.imbalance_cross_at-f8.ensures c.in-Got-f8.is) c.cross_of.ensures
-    ⨾ value num8_m c.be_u8-f9.ensures c.in-Got-f9.is
-    ⨾ end)
+returns c = body_reads 'I' _ refl (c.in_ok-paired_shares.ensures ⨾ c.in_ok-imbalance_shares.ensures ⨾ c.in_ok-imbalance_direction.ensures ⨾ c.in_ok-stock.ensures ⨾ c.in_ok-far_price.ensures ⨾ c.in_ok-near_price.ensures ⨾ c.in_ok-current_ref_price.ensures ⨾ c.in_ok-cross_type.ensures ⨾ c.in_ok-price_variation_indicator.ensures ⨾ end)

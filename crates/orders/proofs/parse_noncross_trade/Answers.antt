@@ -1,36 +1,27 @@
 -- `orders::parse_noncross_trade` meets its contract.
 use mathlib.Core.Path.{refl}
 use Rattle.format.specs.Ascii.{'P'}
-use Rattle.format.specs.Meaning.{fault32, fault64, fault8, num32_m, num64_m, num8_m}
-use Rattle.format.proofs.Runs.{value, fault, body-stops, body_reads, end, ◌⨾◌, start, ◌▹◌}
-use Rattle.codes.proofs.Codes.{named, side-coded}
+use Rattle.format.proofs.Runs.{body-stops, body_reads, end, ◌⨾◌, start, ◌▹◌}
+use Rattle.records.specs.Values.{values}
 use Rattle.orders.proofs.parse_noncross_trade.Goals as goal
 
-pub returns-in_default : goal.returns-in_default
-returns-in_default c = body-stops 'P' _ c.no_u64.result refl start (fault num64_m fault64 c.be_u64-f1.ensures c.in_default.is refl c.no_u64.ensures)
+pub returns-in_err-reference : goal.returns-in_err-reference
+returns-in_err-reference c = body-stops values 'P' _ _ _ refl start c.in_err-reference.ensures c.from_residual.ensures.1
 
-pub returns-in_default-f2 : goal.returns-in_default-f2
-returns-in_default-f2 c = body-stops 'P' _ c.no_u8.result refl (start ▹ value num64_m c.be_u64-f1.ensures c.in-Got.is) (fault num8_m fault8 c.side_at-f2.ensures c.in_default-f2.is refl c.no_u8.ensures)
+pub returns-in_err-side : goal.returns-in_err-side
+returns-in_err-side c = body-stops values 'P' _ _ _ refl (start ▹ c.in_ok-reference.ensures) c.in_err-side.ensures c.from_residual-in_err-side.ensures.1
 
-pub returns-in_default-f3 : goal.returns-in_default-f3
-returns-in_default-f3 c = body-stops 'P' _ c.no_u32.result refl (start ▹ value num64_m c.be_u64-f1.ensures c.in-Got.is ▹ value num8_m c.side_at-f2.ensures c.in-Got-f2.is) (fault num32_m fault32 c.be_u32-f3.ensures c.in_default-f3.is refl c.no_u32.ensures)
+pub returns-in_err-shares : goal.returns-in_err-shares
+returns-in_err-shares c = body-stops values 'P' _ _ _ refl (start ▹ c.in_ok-reference.ensures ▹ c.in_ok-side.ensures) c.in_err-shares.ensures c.from_residual-in_err-shares.ensures.1
 
-pub returns-in_default-f4 : goal.returns-in_default-f4
-returns-in_default-f4 c = body-stops 'P' _ c.no_u64-in_default-f4.result refl (start ▹ value num64_m c.be_u64-f1.ensures c.in-Got.is ▹ value num8_m c.side_at-f2.ensures c.in-Got-f2.is ▹ value num32_m c.be_u32-f3.ensures c.in-Got-f3.is) (fault num64_m fault64 c.text8-f4.ensures c.in_default-f4.is refl c.no_u64-in_default-f4.ensures)
+pub returns-in_err-stock : goal.returns-in_err-stock
+returns-in_err-stock c = body-stops values 'P' _ _ _ refl (start ▹ c.in_ok-reference.ensures ▹ c.in_ok-side.ensures ▹ c.in_ok-shares.ensures) c.in_err-stock.ensures c.from_residual-in_err-stock.ensures.1
 
-pub returns-in_default-f5 : goal.returns-in_default-f5
-returns-in_default-f5 c = body-stops 'P' _ c.no_u32-in_default-f5.result refl (start ▹ value num64_m c.be_u64-f1.ensures c.in-Got.is ▹ value num8_m c.side_at-f2.ensures c.in-Got-f2.is ▹ value num32_m c.be_u32-f3.ensures c.in-Got-f3.is ▹ value num64_m c.text8-f4.ensures c.in-Got-f4.is) (fault num32_m fault32 c.be_u32-f5.ensures c.in_default-f5.is refl c.no_u32-in_default-f5.ensures)
+pub returns-in_err-price : goal.returns-in_err-price
+returns-in_err-price c = body-stops values 'P' _ _ _ refl (start ▹ c.in_ok-reference.ensures ▹ c.in_ok-side.ensures ▹ c.in_ok-shares.ensures ▹ c.in_ok-stock.ensures) c.in_err-price.ensures c.from_residual-in_err-price.ensures.1
 
-pub returns-in_default-f6 : goal.returns-in_default-f6
-returns-in_default-f6 c = body-stops 'P' _ c.no_u64-in_default-f6.result refl (start ▹ value num64_m c.be_u64-f1.ensures c.in-Got.is ▹ value num8_m c.side_at-f2.ensures c.in-Got-f2.is ▹ value num32_m c.be_u32-f3.ensures c.in-Got-f3.is ▹ value num64_m c.text8-f4.ensures c.in-Got-f4.is ▹ value num32_m c.be_u32-f5.ensures c.in-Got-f5.is) (fault num64_m fault64 c.be_u64-f6.ensures c.in_default-f6.is refl c.no_u64-in_default-f6.ensures)
+pub returns-in_err-match_number : goal.returns-in_err-match_number
+returns-in_err-match_number c = body-stops values 'P' _ _ _ refl (start ▹ c.in_ok-reference.ensures ▹ c.in_ok-side.ensures ▹ c.in_ok-shares.ensures ▹ c.in_ok-stock.ensures ▹ c.in_ok-price.ensures) c.in_err-match_number.ensures c.from_residual-in_err-match_number.ensures.1
 
 pub returns : goal.returns
-returns c =
-    body_reads 'P' _ refl
-    (value num64_m c.be_u64-f1.ensures c.in-Got.is
-    ⨾ named side-coded _ _ (value num8_m c.side_at-f2.ensures c.in-Got-f2.is) c.side_of.ensures
-    ⨾ value num32_m c.be_u32-f3.ensures c.in-Got-f3.is
-    ⨾ value num64_m c.text8-f4.ensures c.in-Got-f4.is
-    ⨾ value num32_m c.be_u32-f5.ensures c.in-Got-f5.is
-    ⨾ value num64_m c.be_u64-f6.ensures c.in-Got-f6.is
-    ⨾ end)
+returns c = body_reads 'P' _ refl (c.in_ok-reference.ensures ⨾ c.in_ok-side.ensures ⨾ c.in_ok-shares.ensures ⨾ c.in_ok-stock.ensures ⨾ c.in_ok-price.ensures ⨾ c.in_ok-match_number.ensures ⨾ end)

@@ -1,19 +1,15 @@
 -- `orders::parse_order_cancelled` meets its contract.
 use mathlib.Core.Path.{refl}
 use Rattle.format.specs.Ascii.{'X'}
-use Rattle.format.specs.Meaning.{fault32, fault64, num32_m, num64_m}
-use Rattle.format.proofs.Runs.{value, fault, body-stops, body_reads, end, ◌⨾◌, start, ◌▹◌}
+use Rattle.format.proofs.Runs.{body-stops, body_reads, end, ◌⨾◌, start, ◌▹◌}
+use Rattle.records.specs.Values.{values}
 use Rattle.orders.proofs.parse_order_cancelled.Goals as goal
 
-pub returns-in_default : goal.returns-in_default
-returns-in_default c = body-stops 'X' _ c.no_u64.result refl start (fault num64_m fault64 c.be_u64-f1.ensures c.in_default.is refl c.no_u64.ensures)
+pub returns-in_err-reference : goal.returns-in_err-reference
+returns-in_err-reference c = body-stops values 'X' _ _ _ refl start c.in_err-reference.ensures c.from_residual.ensures.1
 
-pub returns-in_default-f2 : goal.returns-in_default-f2
-returns-in_default-f2 c = body-stops 'X' _ c.no_u32.result refl (start ▹ value num64_m c.be_u64-f1.ensures c.in-Got.is) (fault num32_m fault32 c.be_u32-f2.ensures c.in_default-f2.is refl c.no_u32.ensures)
+pub returns-in_err-cancelled : goal.returns-in_err-cancelled
+returns-in_err-cancelled c = body-stops values 'X' _ _ _ refl (start ▹ c.in_ok-reference.ensures) c.in_err-cancelled.ensures c.from_residual-in_err-cancelled.ensures.1
 
 pub returns : goal.returns
-returns c =
-    body_reads 'X' _ refl
-    (value num64_m c.be_u64-f1.ensures c.in-Got.is
-    ⨾ value num32_m c.be_u32-f2.ensures c.in-Got-f2.is
-    ⨾ end)
+returns c = body_reads 'X' _ refl (c.in_ok-reference.ensures ⨾ c.in_ok-cancelled.ensures ⨾ end)

@@ -1,32 +1,24 @@
 -- `orders::parse_order_executed_with_price` meets its contract.
 use mathlib.Core.Path.{refl}
 use Rattle.format.specs.Ascii.{'C'}
-use Rattle.format.specs.Meaning.{fault32, fault64, fault8, num32_m, num64_m, num8_m}
-use Rattle.format.proofs.Runs.{value, fault, body-stops, body_reads, end, ◌⨾◌, start, ◌▹◌}
-use Rattle.codes.proofs.Codes.{named, yes_no-coded}
+use Rattle.format.proofs.Runs.{body-stops, body_reads, end, ◌⨾◌, start, ◌▹◌}
+use Rattle.records.specs.Values.{values}
 use Rattle.orders.proofs.parse_order_executed_with_price.Goals as goal
 
-pub returns-in_default : goal.returns-in_default
-returns-in_default c = body-stops 'C' _ c.no_u64.result refl start (fault num64_m fault64 c.be_u64-f1.ensures c.in_default.is refl c.no_u64.ensures)
+pub returns-in_err-reference : goal.returns-in_err-reference
+returns-in_err-reference c = body-stops values 'C' _ _ _ refl start c.in_err-reference.ensures c.from_residual.ensures.1
 
-pub returns-in_default-f2 : goal.returns-in_default-f2
-returns-in_default-f2 c = body-stops 'C' _ c.no_u32.result refl (start ▹ value num64_m c.be_u64-f1.ensures c.in-Got.is) (fault num32_m fault32 c.be_u32-f2.ensures c.in_default-f2.is refl c.no_u32.ensures)
+pub returns-in_err-executed : goal.returns-in_err-executed
+returns-in_err-executed c = body-stops values 'C' _ _ _ refl (start ▹ c.in_ok-reference.ensures) c.in_err-executed.ensures c.from_residual-in_err-executed.ensures.1
 
-pub returns-in_default-f3 : goal.returns-in_default-f3
-returns-in_default-f3 c = body-stops 'C' _ c.no_u64-in_default-f3.result refl (start ▹ value num64_m c.be_u64-f1.ensures c.in-Got.is ▹ value num32_m c.be_u32-f2.ensures c.in-Got-f2.is) (fault num64_m fault64 c.be_u64-f3.ensures c.in_default-f3.is refl c.no_u64-in_default-f3.ensures)
+pub returns-in_err-match_number : goal.returns-in_err-match_number
+returns-in_err-match_number c = body-stops values 'C' _ _ _ refl (start ▹ c.in_ok-reference.ensures ▹ c.in_ok-executed.ensures) c.in_err-match_number.ensures c.from_residual-in_err-match_number.ensures.1
 
-pub returns-in_default-f4 : goal.returns-in_default-f4
-returns-in_default-f4 c = body-stops 'C' _ c.no_u8.result refl (start ▹ value num64_m c.be_u64-f1.ensures c.in-Got.is ▹ value num32_m c.be_u32-f2.ensures c.in-Got-f2.is ▹ value num64_m c.be_u64-f3.ensures c.in-Got-f3.is) (fault num8_m fault8 c.yes_no_at-f4.ensures c.in_default-f4.is refl c.no_u8.ensures)
+pub returns-in_err-printable : goal.returns-in_err-printable
+returns-in_err-printable c = body-stops values 'C' _ _ _ refl (start ▹ c.in_ok-reference.ensures ▹ c.in_ok-executed.ensures ▹ c.in_ok-match_number.ensures) c.in_err-printable.ensures c.from_residual-in_err-printable.ensures.1
 
-pub returns-in_default-f5 : goal.returns-in_default-f5
-returns-in_default-f5 c = body-stops 'C' _ c.no_u32-in_default-f5.result refl (start ▹ value num64_m c.be_u64-f1.ensures c.in-Got.is ▹ value num32_m c.be_u32-f2.ensures c.in-Got-f2.is ▹ value num64_m c.be_u64-f3.ensures c.in-Got-f3.is ▹ value num8_m c.yes_no_at-f4.ensures c.in-Got-f4.is) (fault num32_m fault32 c.be_u32-f5.ensures c.in_default-f5.is refl c.no_u32-in_default-f5.ensures)
+pub returns-in_err-price : goal.returns-in_err-price
+returns-in_err-price c = body-stops values 'C' _ _ _ refl (start ▹ c.in_ok-reference.ensures ▹ c.in_ok-executed.ensures ▹ c.in_ok-match_number.ensures ▹ c.in_ok-printable.ensures) c.in_err-price.ensures c.from_residual-in_err-price.ensures.1
 
 pub returns : goal.returns
-returns c =
-    body_reads 'C' _ refl
-    (value num64_m c.be_u64-f1.ensures c.in-Got.is
-    ⨾ value num32_m c.be_u32-f2.ensures c.in-Got-f2.is
-    ⨾ value num64_m c.be_u64-f3.ensures c.in-Got-f3.is
-    ⨾ named yes_no-coded _ _ (value num8_m c.yes_no_at-f4.ensures c.in-Got-f4.is) c.yes_no_of.ensures
-    ⨾ value num32_m c.be_u32-f5.ensures c.in-Got-f5.is
-    ⨾ end)
+returns c = body_reads 'C' _ refl (c.in_ok-reference.ensures ⨾ c.in_ok-executed.ensures ⨾ c.in_ok-match_number.ensures ⨾ c.in_ok-printable.ensures ⨾ c.in_ok-price.ensures ⨾ end)

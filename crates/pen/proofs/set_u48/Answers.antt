@@ -1,14 +1,10 @@
 -- `pen::set_u48` meets its contract.
-use mathlib.Core.Path.{sym, ◌∙◌}
+use Rattle.std.proofs.Common.{sym, ◌∙◌}
 use Rattle.pen.proofs.Digits.{put-fits, put-not}
 use Rattle.pen.proofs.set_u48.Goals as goal
 
 pub returns-then-at-buf : goal.returns-then-at-buf
-returns-then-at-buf c =
-    let a = c.args in
-    c.put6.ensures ∙ sym (put-fits a.buf.now a.place 6 a.v c.if-at-buf.true)
+returns-then-at-buf c = c.put.ensures ∙ sym (put-fits c.args.buf.now c.args.place 6 c.args.v c.if-at-buf.true)
 
 pub returns-else-at-buf : goal.returns-else-at-buf
-returns-else-at-buf c =
-    let a = c.args in
-    sym (put-not a.buf.now a.place 6 a.v c.if-at-buf.false)
+returns-else-at-buf c = sym (put-not c.args.buf.now c.args.place 6 c.args.v c.if-at-buf.false)

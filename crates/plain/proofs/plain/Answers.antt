@@ -10,10 +10,10 @@ unfolding plain_of
 returns-then-w-lt52 c = rw (lt-leb _ _ c.if-w-lt52.true)
 
 pub returns-in_default : goal.returns-in_default
-returns-in_default c = absurd (number-there _ 26 _ (omega (arith, c.if-w-lt52.false)) c.be_u64-f.ensures c.in_default.is)
+returns-in_default c = absurd (number-there _ 26 _ (omega (arith, c.if-w-lt52.false)) c.in_default.ensures)
 
 pub returns : goal.returns
 unfolding plain_of
 returns c =
-    let s = number_is _ 26 (omega (arith, c.if-w-lt52.false)) c.be_u64-f.ensures c.in-Got.is in
+    let s = number_is _ 26 (omega (arith, c.if-w-lt52.false)) c.in-Ok.ensures in
     rw (le-leb _ _ c.if-w-lt52.false) (rw (c.row.ensures, c.row-2.ensures, s) at c.end_by.ensures)

@@ -24,23 +24,23 @@ pub returns-then-w-lt52 : goal.returns-then-w-lt52
 returns-then-w-lt52 c = below _ _ c.if-w-lt52.true
 
 pub returns-in_default : goal.returns-in_default
-returns-in_default c = absurd (number-there _ 26 _ (omega (arith, c.if-w-lt52.false)) c.be_u64-f.ensures c.in_default.is)
+returns-in_default c = absurd (number-there _ 26 _ (omega (arith, c.if-w-lt52.false)) c.in_default.ensures)
 
-pub returns-in_default-g : goal.returns-in_default-g
-returns-in_default-g c = absurd (number-there _ 5 _ (omega (arith, c.if-w-lt52.false)) c.be_u64-g.ensures c.in_default-g.is)
+pub returns-in_default-number_at : goal.returns-in_default-number_at
+returns-in_default-number_at c = absurd (number-there _ 5 _ (omega (arith, c.if-w-lt52.false)) c.in_default-number_at.ensures)
 
 pub returns-then-not-tight : goal.returns-then-not-tight
 unfolding strictly_of
 returns-then-not-tight c =
-    let s = number_is _ 26 (omega (arith, c.if-w-lt52.false)) c.be_u64-f.ensures c.in-Got.is in
-    let v = number_is _ 5 (omega (arith, c.if-w-lt52.false)) c.be_u64-g.ensures c.in-Got-g.is in
+    let s = number_is _ 26 (omega (arith, c.if-w-lt52.false)) c.in-Ok.ensures in
+    let v = number_is _ 5 (omega (arith, c.if-w-lt52.false)) c.in-Ok-number_at.ensures in
     let t = sym (c.if-not-tight.true) ∙ c.tight.ensures in
     rw (sym (rw (c.row-r.ensures, s, v) at t))
 
 pub returns : goal.returns
 unfolding strictly_of plain_of
 returns c =
-    let s = number_is _ 26 (omega (arith, c.if-w-lt52.false)) c.be_u64-f.ensures c.in-Got.is in
-    let v = number_is _ 5 (omega (arith, c.if-w-lt52.false)) c.be_u64-g.ensures c.in-Got-g.is in
+    let s = number_is _ 26 (omega (arith, c.if-w-lt52.false)) c.in-Ok.ensures in
+    let v = number_is _ 5 (omega (arith, c.if-w-lt52.false)) c.in-Ok-number_at.ensures in
     let t = sym (c.if-not-tight.false) ∙ c.tight.ensures in
     rw (sym (rw (c.row-r.ensures, s, v) at t), le-leb _ _ c.if-w-lt52.false) (rw (c.row-r.ensures, c.row.ensures, s) at c.end_by-n.ensures)

@@ -18,12 +18,6 @@ returns-then-not-room c =
     let s = sym c.sound.ensures ∙ c.if-not-sound.false in
     record { value = plan-33 c.args.w c.args.piece.now s (sym c.room.ensures ∙ c.if-not-room.true); plan_holds = tt }
 
-pub overflow_add-total : goal.overflow_add-total
-overflow_add-total c =
-    let s = sym c.sound.ensures ∙ c.if-not-sound.false in
-    let y = ready_gives c.args.w (length c.args.piece.now) s (sym c.room.ensures ∙ c.if-not-room.false) in
-    omega (arith, y.room)
-
 pub overflow_sub-result : goal.overflow_sub-result
 overflow_sub-result c =
     let a = c.args in

@@ -5,7 +5,7 @@ use lib.ListN.{length}
 use Rattle.play.proofs.+fetch_try_window.Given as goal
 
 abbrev pub decreases-fetch : goal.decreases-fetch
-decreases-fetch l = (length l.src.now - l.at) + (length l.src.now - l.at)
+decreases-fetch l = (length l.tape.src.now - l.at) + (length l.tape.src.now - l.at)
 
 abbrev pub decreases-try_window : goal.decreases-try_window
-decreases-try_window l = (length l.src.now - l.at) + (length l.src.now - l.at) + 1
+decreases-try_window l = (length l.tape.src.now - l.at) + (length l.tape.src.now - l.at) + 1

@@ -7,10 +7,10 @@ pub returns : goal.returns
 returns c =
     let a = c.args in
     order-puts a.buf.now a.x a.x.mpid
-    ((c.set_u64.ensures.buf_after, c.set_u64.ensures.v_bound)
-    ⨾ (c.set_u8.ensures.buf_after, c.set_u8.ensures.v_bound) by c.side_code.ensures
-    ⨾ (c.set_u32.ensures.buf_after, c.set_u32.ensures.v_bound)
-    ⨾ (c.set_u64-2.ensures.buf_after, c.set_u64-2.ensures.v_bound)
-    ⨾ (c.set_u32-2.ensures.buf_after, c.set_u32-2.ensures.v_bound)
+    ((c.set.ensures.buf_after, c.set.ensures.v_bound)
+    ⨾ (c.set-2.ensures.buf_after, c.set-2.ensures.v_bound) by c.byte.ensures
+    ⨾ (c.set-3.ensures.buf_after, c.set-3.ensures.v_bound)
+    ⨾ (c.set-4.ensures.buf_after, c.set-4.ensures.v_bound)
+    ⨾ (c.set-5.ensures.buf_after, c.set-5.ensures.v_bound)
     ⨾ end)
     c.put_mpid.ensures

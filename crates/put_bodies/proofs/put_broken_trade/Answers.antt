@@ -10,5 +10,5 @@ unfolding layout
 returns c =
     let a = c.args in
     body-puts a.buf.now (values (Body·.BrokenTrade a.match_number))
-    ((c.set_u64.ensures.buf_after, c.set_u64.ensures.v_bound)
+    ((c.set.ensures.buf_after, c.set.ensures.v_bound)
     ⨾ end)

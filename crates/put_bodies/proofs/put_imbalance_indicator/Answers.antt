@@ -10,15 +10,15 @@ unfolding layout
 returns c =
     let a = c.args in
     body-puts a.buf.now (values (Body·.Imbalance a.x))
-    ((c.set_u64.ensures.buf_after, c.set_u64.ensures.v_bound)
-    ⨾ (c.set_u64-2.ensures.buf_after, c.set_u64-2.ensures.v_bound)
-    ⨾ (c.set_u8.ensures.buf_after, c.set_u8.ensures.v_bound) by c.direction_code.ensures
-    ⨾ (c.set_u64-3.ensures.buf_after, c.set_u64-3.ensures.v_bound)
-    ⨾ (c.set_u32.ensures.buf_after, c.set_u32.ensures.v_bound)
-    ⨾ (c.set_u32-2.ensures.buf_after, c.set_u32-2.ensures.v_bound)
-    ⨾ (c.set_u32-3.ensures.buf_after, c.set_u32-3.ensures.v_bound)
-    ⨾ (c.set_u8-2.ensures.buf_after, c.set_u8-2.ensures.v_bound) by c.cross_code.ensures
-    ⨾ (c.set_u8-3.ensures.buf_after, c.set_u8-3.ensures.v_bound)
+    ((c.set.ensures.buf_after, c.set.ensures.v_bound)
+    ⨾ (c.set-2.ensures.buf_after, c.set-2.ensures.v_bound)
+    ⨾ (c.set-3.ensures.buf_after, c.set-3.ensures.v_bound) by c.byte.ensures
+    ⨾ (c.set-4.ensures.buf_after, c.set-4.ensures.v_bound)
+    ⨾ (c.set-5.ensures.buf_after, c.set-5.ensures.v_bound)
+    ⨾ (c.set-6.ensures.buf_after, c.set-6.ensures.v_bound)
+    ⨾ (c.set-7.ensures.buf_after, c.set-7.ensures.v_bound)
+    ⨾ (c.set-8.ensures.buf_after, c.set-8.ensures.v_bound) by c.byte-2.ensures
+    ⨾ (c.set-9.ensures.buf_after, c.set-9.ensures.v_bound)
     ⨾ end)
 
 pub shape_of-buf : goal.shape_of-buf

@@ -10,7 +10,7 @@ unfolding layout
 returns c =
     let a = c.args in
     body-puts a.buf.now (values (Body·.OperationalHalt a.stock a.market_code a.action))
-    ((c.set_u64.ensures.buf_after, c.set_u64.ensures.v_bound)
-    ⨾ (c.set_u8.ensures.buf_after, c.set_u8.ensures.v_bound) by c.market_code.ensures
-    ⨾ (c.set_u8-2.ensures.buf_after, c.set_u8-2.ensures.v_bound) by c.halt_code.ensures
+    ((c.set.ensures.buf_after, c.set.ensures.v_bound)
+    ⨾ (c.set-2.ensures.buf_after, c.set-2.ensures.v_bound) by c.byte.ensures
+    ⨾ (c.set-3.ensures.buf_after, c.set-3.ensures.v_bound) by c.byte-2.ensures
     ⨾ end)

@@ -10,6 +10,6 @@ unfolding layout
 returns c =
     let a = c.args in
     body-puts a.buf.now (values (Body·.OrderCancelled a.reference a.cancelled))
-    ((c.set_u64.ensures.buf_after, c.set_u64.ensures.v_bound)
-    ⨾ (c.set_u32.ensures.buf_after, c.set_u32.ensures.v_bound)
+    ((c.set.ensures.buf_after, c.set.ensures.v_bound)
+    ⨾ (c.set-2.ensures.buf_after, c.set-2.ensures.v_bound)
     ⨾ end)

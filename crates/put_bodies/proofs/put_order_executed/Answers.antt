@@ -10,7 +10,7 @@ unfolding layout
 returns c =
     let a = c.args in
     body-puts a.buf.now (values (Body·.OrderExecuted a.reference a.executed a.match_number))
-    ((c.set_u64.ensures.buf_after, c.set_u64.ensures.v_bound)
-    ⨾ (c.set_u32.ensures.buf_after, c.set_u32.ensures.v_bound)
-    ⨾ (c.set_u64-2.ensures.buf_after, c.set_u64-2.ensures.v_bound)
+    ((c.set.ensures.buf_after, c.set.ensures.v_bound)
+    ⨾ (c.set-2.ensures.buf_after, c.set-2.ensures.v_bound)
+    ⨾ (c.set-3.ensures.buf_after, c.set-3.ensures.v_bound)
     ⨾ end)

@@ -10,6 +10,6 @@ unfolding layout
 returns c =
     let a = c.args in
     body-puts a.buf.now (values (Body·.RetailPriceImprovementIndicator a.x))
-    ((c.set_u64.ensures.buf_after, c.set_u64.ensures.v_bound)
-    ⨾ (c.set_u8.ensures.buf_after, c.set_u8.ensures.v_bound) by c.interest_code.ensures
+    ((c.set.ensures.buf_after, c.set.ensures.v_bound)
+    ⨾ (c.set-2.ensures.buf_after, c.set-2.ensures.v_bound) by c.byte.ensures
     ⨾ end)

@@ -10,20 +10,20 @@ unfolding layout
 returns c =
     let a = c.args in
     body-puts a.buf.now (values (Body·.StockDirectory a.x))
-    ((c.set_u64.ensures.buf_after, c.set_u64.ensures.v_bound)
-    ⨾ (c.set_u8.ensures.buf_after, c.set_u8.ensures.v_bound) by c.category_code.ensures
-    ⨾ (c.set_u8-2.ensures.buf_after, c.set_u8-2.ensures.v_bound) by c.status_code.ensures
-    ⨾ (c.set_u32.ensures.buf_after, c.set_u32.ensures.v_bound)
-    ⨾ (c.set_u8-3.ensures.buf_after, c.set_u8-3.ensures.v_bound) by c.yes_no_code.ensures
-    ⨾ (c.set_u8-4.ensures.buf_after, c.set_u8-4.ensures.v_bound) by c.class_code.ensures
-    ⨾ (c.set_u16.ensures.buf_after, c.set_u16.ensures.v_bound) by c.subtype_code.ensures
-    ⨾ (c.set_u8-5.ensures.buf_after, c.set_u8-5.ensures.v_bound) by c.authenticity_code.ensures
-    ⨾ (c.set_u8-6.ensures.buf_after, c.set_u8-6.ensures.v_bound) by c.flag_code.ensures
-    ⨾ (c.set_u8-7.ensures.buf_after, c.set_u8-7.ensures.v_bound) by c.flag_code-2.ensures
-    ⨾ (c.set_u8-8.ensures.buf_after, c.set_u8-8.ensures.v_bound) by c.tier_code.ensures
-    ⨾ (c.set_u8-9.ensures.buf_after, c.set_u8-9.ensures.v_bound) by c.etp_flag_code.ensures
-    ⨾ (c.set_u32-2.ensures.buf_after, c.set_u32-2.ensures.v_bound)
-    ⨾ (c.set_u8-10.ensures.buf_after, c.set_u8-10.ensures.v_bound) by c.yes_no_code-2.ensures
+    ((c.set.ensures.buf_after, c.set.ensures.v_bound)
+    ⨾ (c.set-2.ensures.buf_after, c.set-2.ensures.v_bound) by c.byte.ensures
+    ⨾ (c.set-3.ensures.buf_after, c.set-3.ensures.v_bound) by c.byte-2.ensures
+    ⨾ (c.set-4.ensures.buf_after, c.set-4.ensures.v_bound)
+    ⨾ (c.set-5.ensures.buf_after, c.set-5.ensures.v_bound) by c.byte-3.ensures
+    ⨾ (c.set-6.ensures.buf_after, c.set-6.ensures.v_bound) by c.byte-4.ensures
+    ⨾ (c.set-7.ensures.buf_after, c.set-7.ensures.v_bound) by c.subtype_code.ensures
+    ⨾ (c.set-8.ensures.buf_after, c.set-8.ensures.v_bound) by c.byte-5.ensures
+    ⨾ (c.set-9.ensures.buf_after, c.set-9.ensures.v_bound) by c.byte-6.ensures
+    ⨾ (c.set-10.ensures.buf_after, c.set-10.ensures.v_bound) by c.byte-7.ensures
+    ⨾ (c.set-11.ensures.buf_after, c.set-11.ensures.v_bound) by c.byte-8.ensures
+    ⨾ (c.set-12.ensures.buf_after, c.set-12.ensures.v_bound) by c.byte-9.ensures
+    ⨾ (c.set-13.ensures.buf_after, c.set-13.ensures.v_bound)
+    ⨾ (c.set-14.ensures.buf_after, c.set-14.ensures.v_bound) by c.byte-10.ensures
     ⨾ end)
 
 pub shape_of-buf : goal.shape_of-buf

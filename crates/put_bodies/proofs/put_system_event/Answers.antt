@@ -10,5 +10,5 @@ unfolding layout
 returns c =
     let a = c.args in
     body-puts a.buf.now (values (Body·.SystemEvent a.event))
-    ((c.set_u8.ensures.buf_after, c.set_u8.ensures.v_bound) by c.event_code.ensures
+    ((c.set.ensures.buf_after, c.set.ensures.v_bound) by c.byte.ensures
     ⨾ end)

@@ -1,39 +1,35 @@
 -- `reader::parse_message` meets its contract.
-use mathlib.Core.Path.{refl, sym, ap, ◌∙◌}
+use mathlib.Core.Path.{ap, sym, ◌∙◌}
 use native.Mathlib.Omega.{arith}
-use Rattle.records.specs.declared.BodyRead.TheVariants.{No}
-use Rattle.reader.proofs.Parts.{no_header, was_read, ordinary, too-late, strayed, unstrayed}
+use Rattle.std.proofs.lemmas.Result.{err_from_is_err_and}
+use Rattle.format.specs.Meaning.{stop_m}
+use Rattle.reader.proofs.Parts.{no_header, was_read, too-late, strayed, unstrayed, reached, ordinary, unread, unread-unstrayed}
 use Rattle.reader.proofs.parse_message.Goals as goal
 
 pub returns-in_default : goal.returns-in_default
-returns-in_default c = no_header _ _ c.read_header-h.ensures c.in_default.is
+returns-in_default c = no_header _ _ c.read_header.ensures c.in_default.is
 
 pub returns-then-late : goal.returns-then-late
-returns-then-late c = too-late _ _ c.read_header-h.ensures c.in-Got.is (sym c.late.ensures ∙ c.if-late.true)
+returns-then-late c = ap stop_m c.refused.ensures ∙ too-late _ _ c.read_header.ensures c.in-Some.is (sym c.late.ensures ∙ c.if-late.true)
 
-pub returns-then-p-ne0 : goal.returns-then-p-ne0
-returns-then-p-ne0 c = strayed _ _ _ (was_read _ _ c.read_header-h.ensures c.in-Got.is c.parse_body-b.ensures c.in-Got-b.is) c.if-strict.true (sym c.late.ensures ∙ c.if-late.false) (omega arith) c.stray-p.ensures c.if-p-ne0.true
+pub returns-in_err-unstrayed-in-Ok : goal.returns-in_err-unstrayed-in-Ok
+returns-in_err-unstrayed-in-Ok c =
+    let p = err_from_is_err_and c.from_residual.result c.from_residual.ensures.1 in
+    rw (p.1, p.2) (strayed _ _ _ (was_read _ _ c.read_header.ensures c.in-Some.is c.parse_body.ensures c.in-Ok.is) c.if-strict.true (sym c.late.ensures ∙ c.if-late.false) (omega arith) c.in_err-unstrayed-in-Ok.ensures)
 
-pub returns-then-p-ne0-2 : goal.returns-then-p-ne0-2
-returns-then-p-ne0-2 c = strayed _ _ _ (was_read _ _ c.read_header-h.ensures c.in-Got.is c.parse_body-b.ensures (c.in-No.is ∙ ap No c.in-Short.is)) c.if-strict-2.true (sym c.late.ensures ∙ c.if-late.false) (omega arith) c.stray-p-then-strict-2.ensures c.if-p-ne0-2.true
+pub returns-in_err-unstrayed-in-Err : goal.returns-in_err-unstrayed-in-Err
+returns-in_err-unstrayed-in-Err c =
+    let p = err_from_is_err_and c.from_residual-in_err-unstrayed-in-Err.result c.from_residual-in_err-unstrayed-in-Err.ensures.1 in
+    rw (p.1, p.2) (strayed _ _ _ (was_read _ _ c.read_header.ensures c.in-Some.is c.parse_body.ensures c.in-Err.is) c.if-strict-2.true (sym c.late.ensures ∙ c.if-late.false) (reached _ _ c.reach.ensures) c.in_err-unstrayed-in-Err.ensures)
 
-pub returns-then-p-ne0-3 : goal.returns-then-p-ne0-3
-returns-then-p-ne0-3 c = strayed _ _ _ (was_read _ _ c.read_header-h.ensures c.in-Got.is c.parse_body-b.ensures (c.in-No.is ∙ ap No c.in-Refused.is)) c.if-strict-3.true (sym c.late.ensures ∙ c.if-late.false) refl c.stray-p-then-strict-3.ensures c.if-p-ne0-3.true
-
-pub returns-else-p-ne0 : goal.returns-else-p-ne0
-returns-else-p-ne0 c = unstrayed _ _ _ (was_read _ _ c.read_header-h.ensures c.in-Got.is c.parse_body-b.ensures c.in-Got-b.is) c.if-strict.true (sym c.late.ensures ∙ c.if-late.false) (omega arith) c.stray-p.ensures c.if-p-ne0.false
+pub returns-in_ok-unstrayed-in-Ok : goal.returns-in_ok-unstrayed-in-Ok
+returns-in_ok-unstrayed-in-Ok c = unstrayed _ _ _ (was_read _ _ c.read_header.ensures c.in-Some.is c.parse_body.ensures c.in-Ok.is) c.if-strict.true (sym c.late.ensures ∙ c.if-late.false) (omega arith) c.in_ok-unstrayed-in-Ok.ensures
 
 pub returns-else-strict : goal.returns-else-strict
-returns-else-strict c = ordinary _ _ (was_read _ _ c.read_header-h.ensures c.in-Got.is c.parse_body-b.ensures c.in-Got-b.is) c.if-strict.false
+returns-else-strict c = ordinary _ _ (was_read _ _ c.read_header.ensures c.in-Some.is c.parse_body.ensures c.in-Ok.is) c.if-strict.false
 
-pub returns-else-p-ne0-2 : goal.returns-else-p-ne0-2
-returns-else-p-ne0-2 c = unstrayed _ _ _ (was_read _ _ c.read_header-h.ensures c.in-Got.is c.parse_body-b.ensures (c.in-No.is ∙ ap No c.in-Short.is)) c.if-strict-2.true (sym c.late.ensures ∙ c.if-late.false) (omega arith) c.stray-p-then-strict-2.ensures c.if-p-ne0-2.false
+pub returns-in_ok-unstrayed-in-Err : goal.returns-in_ok-unstrayed-in-Err
+returns-in_ok-unstrayed-in-Err c = unread-unstrayed _ _ _ (was_read _ _ c.read_header.ensures c.in-Some.is c.parse_body.ensures c.in-Err.is) c.if-strict-2.true (sym c.late.ensures ∙ c.if-late.false) c.reach.ensures c.in_ok-unstrayed-in-Err.ensures
 
 pub returns-else-strict-2 : goal.returns-else-strict-2
-returns-else-strict-2 c = ordinary _ _ (was_read _ _ c.read_header-h.ensures c.in-Got.is c.parse_body-b.ensures (c.in-No.is ∙ ap No c.in-Short.is)) c.if-strict-2.false
-
-pub returns-else-p-ne0-3 : goal.returns-else-p-ne0-3
-returns-else-p-ne0-3 c = unstrayed _ _ _ (was_read _ _ c.read_header-h.ensures c.in-Got.is c.parse_body-b.ensures (c.in-No.is ∙ ap No c.in-Refused.is)) c.if-strict-3.true (sym c.late.ensures ∙ c.if-late.false) refl c.stray-p-then-strict-3.ensures c.if-p-ne0-3.false
-
-pub returns-else-strict-3 : goal.returns-else-strict-3
-returns-else-strict-3 c = ordinary _ _ (was_read _ _ c.read_header-h.ensures c.in-Got.is c.parse_body-b.ensures (c.in-No.is ∙ ap No c.in-Refused.is)) c.if-strict-3.false
+returns-else-strict-2 c = unread _ _ (was_read _ _ c.read_header.ensures c.in-Some.is c.parse_body.ensures c.in-Err.is) c.if-strict-2.false

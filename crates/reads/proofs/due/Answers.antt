@@ -1,30 +1,35 @@
 -- `reads::due` meets its contract.
-use mathlib.Core.Path.{◌∙◌, sym}
+use mathlib.Core.Path.{◌≡◌, ap, ◌∙◌, sym}
+use mathlib.Core.Bool.{true}
 use native.Mathlib.Omega.{arith}
 use borrow.Author.Tests.{lt-ltb, le-ltb}
-use lib.ListN.{drop_of_length-le}
+use lib.ListN.{drop}
 use Rattle.reads.specs.Reads.{is_read, due_of}
-use Rattle.reads.proofs.Laws.{read-far}
+use Rattle.reads.proofs.Laws.{read-inside, read-far}
 use Rattle.reads.proofs.due.Goals as goal
+use Rattle.reads.proofs.due.Goals.{then-p-gt0-via-then-p-gt0, then-p-gt0-via-else-p-gt0+then-not-is_read}
 
 pub returns-then-p-gt0 : goal.returns-then-p-gt0
 unfolding due_of
-returns-then-p-gt0 c = rw (lt-ltb 0 _ c.if-p-gt0.true)
+returns-then-p-gt0 c =
+    elim c.then-p-gt0.branch [
+      | then-p-gt0-via-then-p-gt0 w ↦ rw (lt-ltb 0 _ w.if-p-gt0.true)
+      | then-p-gt0-via-else-p-gt0+then-not-is_read w ↦ rw (le-ltb 0 _ w.if-p-gt0.false, ← c.rest-t.ensures, sym w.is_read.ensures ∙ w.if-not-is_read.true)
+    ]
 
-pub returns-then-i-list : goal.returns-then-i-list
-unfolding due_of is_read
-returns-then-i-list c = rw (le-ltb 0 _ c.if-p-gt0.false, drop_of_length-le c.args.list.now {i = c.args.p.i} (omega arith))
+pub brings-left-requires : goal.brings-left-requires
+brings-left-requires c = omega (arith, read-inside c.rest-t.result.now (sym c.is_read.ensures ∙ c.if-not-is_read.false))
 
-pub returns-then-not-is_read : goal.returns-then-not-is_read
-unfolding due_of
-returns-then-not-is_read c = rw (le-ltb 0 _ c.if-p-gt0.false, sym c.is_read.ensures ∙ c.if-not-is_read.true)
-
-pub brings-n-requires : goal.brings-n-requires
-brings-n-requires c = omega (arith, read-far c.args.list.now c.args.p.i (omega arith) (sym c.is_read.ensures ∙ c.if-not-is_read.false))
+pub overflow_add-result : goal.overflow_add-result
+overflow_add-result c =
+    let r : is_read (drop c.args.p.i c.args.list.now) ≡ true = ap is_read (sym c.rest-t.ensures) ∙ sym c.is_read.ensures ∙ c.if-not-is_read.false in
+    omega (arith, read-far c.args.list.now c.args.p.i r)
 
 pub overflow_add-result-2 : goal.overflow_add-result-2
-overflow_add-result-2 c = omega (arith, read-far c.args.list.now c.args.p.i (omega arith) (sym c.is_read.ensures ∙ c.if-not-is_read.false), c.brings-n.ensures)
+overflow_add-result-2 c =
+    let r : is_read (drop c.args.p.i c.args.list.now) ≡ true = ap is_read (sym c.rest-t.ensures) ∙ sym c.is_read.ensures ∙ c.if-not-is_read.false in
+    omega (arith, read-far c.args.list.now c.args.p.i r, rw c.rest-t.ensures at c.brings-left.ensures)
 
 pub returns : goal.returns
 unfolding due_of
-returns c = rw (le-ltb 0 _ c.if-p-gt0.false, sym c.is_read.ensures ∙ c.if-not-is_read.false, c.brings-n.ensures)
+returns c = rw (le-ltb 0 _ c.if-p-gt0.false, ← c.rest-t.ensures, sym c.is_read.ensures ∙ c.if-not-is_read.false, c.brings-left.ensures)

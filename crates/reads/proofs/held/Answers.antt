@@ -2,14 +2,15 @@
 use borrow.Author.Tests.{lt-ltb, le-ltb}
 use Rattle.reads.specs.Reads.{held_of}
 use Rattle.reads.proofs.held.Goals as goal
+use Rattle.reads.proofs.held.Goals.{then-d-via-then-d, then-d-via-else-d+then-d-list}
 
 pub returns-then-d : goal.returns-then-d
 unfolding held_of
-returns-then-d c = rw (lt-ltb _ _ c.if-d.true)
-
-pub returns-then-d-list : goal.returns-then-d-list
-unfolding held_of
-returns-then-d-list c = rw (le-ltb _ _ c.if-d.false, lt-ltb _ _ c.if-d-list.true)
+returns-then-d c =
+    elim c.then-d.branch [
+      | then-d-via-then-d w ↦ rw (lt-ltb _ _ w.if-d.true)
+      | then-d-via-else-d+then-d-list w ↦ rw (le-ltb _ _ w.if-d.false, lt-ltb _ _ w.if-d-list.true)
+    ]
 
 pub returns : goal.returns
 unfolding held_of

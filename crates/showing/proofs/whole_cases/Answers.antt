@@ -1,18 +1,9 @@
+use native.Mathlib.Omega.{arith}
 use Rattle.reads.proofs.Laws.{case-end-inside}
-use borrow.Author.Rules.{rules}
 use Rattle.showing.proofs.whole_cases.Goals as goal
 
-pub returns-then-not-c : goal.returns-then-not-c
-returns-then-not-c c =
-    let h = case-end-inside c.args.list.now c.loop-input.c.i c.loop-input.invariant.0 in
-    search rules
+pub loop-i-smaller : goal.loop-i-smaller
+loop-i-smaller c = omega (arith, c.case_end-end.ensures, case-end-inside c.args.list.now c.loop-i.i c.loop-i.invariant)
 
-pub loop-input-smaller : goal.loop-input-smaller
-loop-input-smaller c =
-    let h = case-end-inside c.args.list.now c.loop-input.c.i c.loop-input.invariant.0 in
-    search rules
-
-pub loop-input-preserved : goal.loop-input-preserved
-loop-input-preserved c =
-    let h = case-end-inside c.args.list.now c.loop-input.c.i c.loop-input.invariant.0 in
-    search rules
+pub loop-i-preserved : goal.loop-i-preserved
+loop-i-preserved c = omega (arith, c.case_end-end.ensures, case-end-inside c.args.list.now c.loop-i.i c.loop-i.invariant)

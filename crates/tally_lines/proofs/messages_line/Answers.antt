@@ -8,10 +8,8 @@ use Rattle.tally_lines.proofs.messages_line.Goals as goal
 pub returns : goal.returns
 unfolding messages_of
 returns c =
-    let first = c.word-a.ensures.fits (omega arith) in
-    let second = c.word-b.ensures.fits (omega (arith, first.next)) in
-    let gap = c.byte-c.ensures.fits (omega (arith, first.next, second.next)) in
-    let count = c.number.ensures.fits (omega (arith, first.next, second.next, gap.next)) in (
-      wrote-append first (wrote-append second (wrote-append gap count)),
-      omega (arith, first.next, second.next, gap.next, count.next, behind-long c.args.messages 10 (search rules)),
+    let text = c.bytes-a.ensures.fits (omega arith) in
+    let count = c.number.ensures.fits (omega (arith, text.next)) in (
+      wrote-append text count,
+      omega (arith, text.next, count.next, behind-long c.args.messages 10 (search rules)),
     )

@@ -8,9 +8,8 @@ use Rattle.tally_lines.proofs.stopped_line.Goals as goal
 pub returns : goal.returns
 unfolding stopped_of
 returns c =
-    let first = c.word-a.ensures.fits (omega arith) in
-    let second = c.word-b.ensures.fits (omega (arith, first.next)) in
-    let number = c.number-c.ensures.fits (omega (arith, first.next, second.next)) in
+    let text = c.bytes-a.ensures.fits (omega arith) in
+    let number = c.number-b.ensures.fits (omega (arith, text.next)) in
     let short = behind-long c.args.stop 32 (search rules) in
-    let place = c.number.ensures.fits (omega (arith, first.next, second.next, number.next, short)) in
-    wrote-append first (wrote-append second (wrote-append number place))
+    let place = c.number.ensures.fits (omega (arith, text.next, number.next, short)) in
+    wrote-append text (wrote-append number place)

@@ -21,4 +21,4 @@ returns c =
     let all = printed-all a.count.now a.messages a.answer
     c.if-count-ne256.false in
     puts-fits (omega arith)
-    (wrote_as all (wrote-append c.lines-a.ensures.0 (wrote-append c.messages_line-b.ensures.0 (rw (← c.number_of-stop.ensures, ← c.place_of-place.ensures) c.stopped_line.ensures))))
+    (wrote_as all (wrote-append c.lines-a.ensures.0 (wrote-append c.messages_line-b.ensures.0 (rw (← c.number_of.ensures, ← c.place_of.ensures) c.stopped_line.ensures))))

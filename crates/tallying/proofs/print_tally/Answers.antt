@@ -1,14 +1,12 @@
 -- `tallying::print_tally` meets its contract.
 use Prim.Native.Nat.{ℕ}
-use mathlib.Core.Path.{◌≡◌, refl, sym, ap, subst, ◌∙◌}
+use mathlib.Core.Path.{◌≡◌, refl, ap, subst, ◌∙◌}
 use mathlib.Core.List.{List}
-use native.Mathlib.Omega.{arith}
 use lib.ListN.{replicate, take}
-use lib.Seq.{length-take-le}
 use Rattle.format.specs.declared.Reading.{Reading}
-use Rattle.words.specs.Words.{ending_by}
+use Rattle.words.specs.Words.{ending_by, stop_by}
 use Rattle.text.specs.Decimal.{Wrote}
-use Rattle.text.proofs.Laws.{wrote-long, wrote-front}
+use Rattle.text.proofs.Laws.{wrote-front}
 use Rattle.tally_lines.specs.Lines.{tally_of}
 use Rattle.feeding.specs.declared.Turn.{Turn}
 use Rattle.tallying.specs.Counts.{sum}
@@ -29,16 +27,11 @@ pub run-last-requires : goal.run-last-requires
 unfolding sum
 run-last-requires g c = record { all = refl; total = refl }
 
-pub slice_bounds-write-end-2 : goal.slice_bounds-write-end-2
-slice_bounds-write-end-2 g c =
-    let put = c.put_tally-n.ensures in
-    sym (length-take-le _ _ (omega (arith, put.inside, wrote-long put)))
-
 pub write-tally-requires : goal.write-tally-requires
 write-tally-requires g c = printed c.run-last.ensures c.put_tally-n.ensures
 
 pub report-requires : goal.report-requires
-report-requires g c = record { number_value = c.number_of-number.ensures; o_value = c.ending_by.ensures ∙ ap (ending_by c.number_of-number.result) c.taken-taken.ensures }
+report-requires g c = record { number_value = c.stop_by-number.ensures ∙ ap stop_by c.number_of.ensures; o_value = c.ending_by.ensures ∙ ap (ending_by c.stop_by-number.result) c.taken-taken.ensures }
 
 pub returns : goal.returns
 returns g c =
@@ -47,7 +40,7 @@ returns g c =
       reads = c.write-tally.ensures.brought_value;
       count = _;
       text = _;
-      printed = asked c.reading-reading.ensures
+      printed = asked c.from-reading.ensures
           (printed c.run-last.ensures c.put_tally-n.ensures);
       bytes = c.write-tally.ensures.bytes_value;
     }

@@ -1,9 +1,7 @@
 -- `templates::bytes` meets its contract.
+use Prim.Native.Nat.{◌-◌}
 use Rattle.templates.proofs.Laws.{Spelling}
 use Rattle.templates.proofs.bytes.Given as goal
 
-abbrev pub invariant-loop-left : goal.invariant-loop-left
-invariant-loop-left l = Spelling l.v l.n l.initial.out l.at l.out l.k l.left
-
-abbrev pub decreases-loop-left : goal.decreases-loop-left
-decreases-loop-left l = l.left
+abbrev pub invariant-loop-i : goal.invariant-loop-i
+invariant-loop-i l = Spelling l.v l.n l.fn.out l.at l.out l.k (l.n - l.i)

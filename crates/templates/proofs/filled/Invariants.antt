@@ -1,11 +1,6 @@
 -- `templates::filled` meets its contract.
-use Prim.Native.Nat.{◌-◌}
-use lib.ListN.{length}
 use Rattle.templates.proofs.Laws.{Filling}
 use Rattle.templates.proofs.filled.Given as goal
 
-abbrev pub invariant-loop-k : goal.invariant-loop-k
-invariant-loop-k l = Filling l.table l.v l.start l.initial.out l.at0 l.out l.from l.at l.k
-
-abbrev pub decreases-loop-k : goal.decreases-loop-k
-decreases-loop-k l = length l.v - l.k
+abbrev pub invariant-loop-x : goal.invariant-loop-x
+invariant-loop-x l = Filling l.template l.v l.fn.out l.at0 l.out l.t l.at l.x-index

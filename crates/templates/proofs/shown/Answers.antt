@@ -16,5 +16,5 @@ pub returns : goal.returns
 unfolding shown_of
 returns c =
     let e : stays c.args.b ≡ false = sym c.plain.ensures ∙ c.if-plain.false in
-    let w = c.word.ensures.fits (omega arith) in
+    let w = c.bytes.ensures.fits (omega arith) in
     record { wrote = rw (e, ← c.hex.ensures, ← c.hex-2.ensures) w; upper_bound = omega (arith, w.next) }

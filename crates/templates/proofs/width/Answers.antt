@@ -1,17 +1,17 @@
 -- `templates::width` meets its contract.
 use native.Mathlib.Omega.{arith}
-use borrow.Author.Tests.{eq-eqb, ne_eqb}
+use Rattle.std.proofs.lemmas.Grind.{common_steps}
 use Rattle.templates.specs.Templates.{width_of}
 use Rattle.templates.proofs.width.Goals as goal
 
-pub returns-then-kind-eq56 : goal.returns-then-kind-eq56
+pub returns-in-56 : goal.returns-in-56
 unfolding width_of
-returns-then-kind-eq56 c = (rw (eq-eqb _ 56 c.if-kind-eq56.true), omega arith)
+returns-in-56 c = (rw c.in-56.is, omega arith)
 
-pub returns-then-kind-eq52 : goal.returns-then-kind-eq52
+pub returns-in-52 : goal.returns-in-52
 unfolding width_of
-returns-then-kind-eq52 c = (rw (ne_eqb _ 56 c.if-kind-eq56.false, eq-eqb _ 52 c.if-kind-eq52.true), omega arith)
+returns-in-52 c = (rw c.in-52.is, omega arith)
 
-pub returns : goal.returns
+pub returns-in_default : goal.returns-in_default
 unfolding width_of
-returns c = (rw (ne_eqb _ 56 c.if-kind-eq56.false, ne_eqb _ 52 c.if-kind-eq52.false), omega arith)
+returns-in_default c = grind (arith, common_steps)

@@ -1,33 +1,20 @@
 -- `trips::read_write` meets its contract.
-use mathlib.Core.Path.{◌≡◌, refl}
-use Prim.Native.Nat.{ℕ}
-use native.Mathlib.Omega.{arith}
-use Rattle.reader.specs.declared.Window.TheVariants.{Incomplete, Refused}
-use Rattle.trips.specs.declared.Again.TheVariants.{NotThere, NotRead}
+use Rattle.std.proofs.lemmas.Result.{err_from_is_err_and}
 use Rattle.trips.proofs.Calls.{read-then-write, read-no-more}
 use Rattle.trips.proofs.read_write.Goals as goal
 
-pub returns-in-Message : goal.returns-in-Message
-returns-in-Message c =
+pub returns-in_err-m : goal.returns-in_err-m
+returns-in_err-m c =
     let a = c.args in
-    let q = c.in-Message in
+    let p = err_from_is_err_and c.from_residual.result c.from_residual.ensures.1 in
+    let r = read-no-more a.reading a.s.now a.buf.now c.parse_message.result c.in_err-m.field-0.0 c.parse_message.ensures c.in_err-m.was in
+    rw (p.1, p.2) (record { value = r.0; buf_after = r.1; written_back = r.2 })
+
+pub returns : goal.returns
+returns c =
+    let a = c.args in
+    let q = c.in_ok-m in
     let w = c.write.ensures in
-    let r = read-then-write a.reading a.s.now a.buf.now c.parse_message-w.result q.m q.field-1 (λ i. (c.type_inv.s i).fits)
-    c.parse_message-w.ensures q.is w.value w.buf_after in
-    record { value = r.0; buf_after = r.1; written_back = r.2 }
-
-pub returns-in-Incomplete : goal.returns-in-Incomplete
-returns-in-Incomplete c =
-    let a = c.args in
-    let r = read-no-more a.reading a.s.now a.buf.now c.parse_message-w.result Incomplete NotThere c.parse_message-w.ensures c.in-Incomplete.is
-    refl refl (λ m n q. let z : ◌≡◌ {A = ℕ} 0 1 = cc in omega arith) in
-    record { value = r.0; buf_after = r.1; written_back = r.2 }
-
-pub returns-in-Refused : goal.returns-in-Refused
-returns-in-Refused c =
-    let a = c.args in
-    let n = c.in-Refused.number in
-    let i = c.in-Refused.place in
-    let r = read-no-more a.reading a.s.now a.buf.now c.parse_message-w.result (Refused n i) (NotRead n i) c.parse_message-w.ensures c.in-Refused.is
-    refl refl (λ m n q. let z : ◌≡◌ {A = ℕ} 0 1 = cc in omega arith) in
+    let r = read-then-write a.reading a.s.now a.buf.now c.parse_message.result q.m q.field-0-1 (λ i. (c.type_inv.s i).fits)
+    c.parse_message.ensures q.was w.value w.buf_after in
     record { value = r.0; buf_after = r.1; written_back = r.2 }

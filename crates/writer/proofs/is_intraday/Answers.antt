@@ -5,4 +5,4 @@ use Rattle.format.specs.Ascii.{'I'}
 use Rattle.writer.proofs.is_intraday.Goals as goal
 
 pub returns : goal.returns
-returns c = ap (λ n. eqb n 'I') c.cross_code.ensures
+returns c = ap (λ n. eqb n 'I') c.byte.ensures

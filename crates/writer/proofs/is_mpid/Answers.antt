@@ -3,5 +3,5 @@ use mathlib.Core.Path.{sym, ap, ◌∙◌}
 use Rattle.writer.specs.Writing.{mpid_fine}
 use Rattle.writer.proofs.is_mpid.Goals as goal
 
-pub returns-in-Present : goal.returns-in-Present
-returns-in-Present c = c.is_text4.ensures ∙ sym (ap mpid_fine c.in-Present.is)
+pub returns-in-Some : goal.returns-in-Some
+returns-in-Some c = c.is_text.ensures ∙ sym (ap mpid_fine c.in-Some.is)

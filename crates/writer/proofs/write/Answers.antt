@@ -6,9 +6,9 @@ use native.Mathlib.Omega.{arith}
 use Prim.Native.Nat.{◌+◌, ◌≤◌}
 use lib.ListN.{length, drop}
 use borrow.Author.Tests.{not-true, not-false}
+use Rattle.std.specs.Prelude.{Ok}
 use Rattle.format.specs.Rows.{size_of, header}
 use Rattle.pen.specs.Encode.{Sized, put_row}
-use Rattle.writer.specs.declared.Written.TheVariants.{Done}
 use Rattle.writer.specs.Writing.{tag_of, head_of, encode, buffer_after, FieldsFit}
 use Rattle.writer.proofs.Says.{told-tag, told-texts, told-intraday, says40, says40-unknown, says41, says42, says43, says44, says-done, known, all-put}
 use Rattle.writer.proofs.write.Goals as goal
@@ -98,7 +98,7 @@ returns c =
     let t : m.tag ≡ tag_of m.body = c.if-tag-own.false ∙ told-tag m.body k in
     let l : 2 + size_of m.tag ≤ length s = omega (arith, c.if-buf-n.false) in
     let h = c.put_header.ensures in record {
-      value = ap Done n
+      value = ap Ok n
           ∙ says-done rd m (length s) t z.0 c.if-late.false (told-texts m.body k true (not-false _ c.if-garbled.false))
           (told-intraday m.body k false c.if-own.false) l;
       buf_after = all-put m s t l (h.0 ∙ ap (λ k. put_row s 0 header (k ∷ drop 1 (head_of m))) z.1) c.put_body.ensures.0

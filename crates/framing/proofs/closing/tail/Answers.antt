@@ -8,9 +8,8 @@ use Rattle.framing.proofs.closing.tail.Goals as goal
 pub returns : goal.returns
 unfolding tail_of
 returns c =
-    let word = c.word-a.ensures.fits (omega arith) in
-    let gap = c.byte-b.ensures.fits (omega (arith, word.next)) in
-    let offset = c.number-c.ensures.fits (omega (arith, word.next, gap.next)) in
+    let word = c.bytes-a.ensures.fits (omega arith) in
+    let offset = c.number-b.ensures.fits (omega (arith, word.next)) in
     let short = behind-long c.args.offset 32 (search rules) in
-    let left = c.number.ensures.fits (omega (arith, word.next, gap.next, offset.next, short)) in
-    wrote-append word (wrote-append gap (wrote-append offset left))
+    let left = c.number.ensures.fits (omega (arith, word.next, offset.next, short)) in
+    wrote-append word (wrote-append offset left)

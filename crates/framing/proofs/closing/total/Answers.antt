@@ -10,14 +10,12 @@ pub returns : goal.returns
 unfolding total_of
 returns c =
     let args = c.args in
-    let word = c.word-a.ensures.fits (omega arith) in
-    let last = c.byte-b.ensures.fits (omega (arith, word.next)) in
-    let gap = c.byte-c.ensures.fits (omega (arith, word.next, last.next)) in
-    let frames = c.number-d.ensures.fits (omega (arith, word.next, last.next, gap.next)) in
-    let at : c.number-d.result ≤ args.at + 27 = omega (arith, word.next, last.next, gap.next, frames.next, behind-long args.frames 32 c.ranges.frames.fits) in
-    let accepted = c.number-e.ensures.fits (omega (arith, at)) in
-    let at2 : c.number-e.result ≤ args.at + 48 = omega (arith, at, accepted.next, behind-long args.accepted 32 c.ranges.accepted.fits) in
-    let refused = c.number-f.ensures.fits (omega (arith, at2)) in
-    let at3 : c.number-f.result ≤ args.at + 69 = omega (arith, at2, refused.next, behind-long args.refused 32 c.ranges.refused.fits) in
+    let word = c.bytes-a.ensures.fits (omega arith) in
+    let frames = c.number-b.ensures.fits (omega (arith, word.next)) in
+    let at : c.number-b.result ≤ args.at + 27 = omega (arith, word.next, frames.next, behind-long args.frames 32 c.ranges.frames.fits) in
+    let accepted = c.number-c.ensures.fits (omega (arith, at)) in
+    let at2 : c.number-c.result ≤ args.at + 48 = omega (arith, at, accepted.next, behind-long args.accepted 32 c.ranges.accepted.fits) in
+    let refused = c.number-d.ensures.fits (omega (arith, at2)) in
+    let at3 : c.number-d.result ≤ args.at + 69 = omega (arith, at2, refused.next, behind-long args.refused 32 c.ranges.refused.fits) in
     let bytes = c.number.ensures.fits (omega (arith, at3)) in
-    wrote-append word (wrote-append last (wrote-append gap (wrote-append frames (wrote-append accepted (wrote-append refused bytes)))))
+    wrote-append word (wrote-append frames (wrote-append accepted (wrote-append refused bytes)))

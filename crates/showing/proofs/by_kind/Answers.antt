@@ -1,7 +1,0 @@
--- `showing::by_kind` meets its contract.
-use borrow.Author.Rules.{rules}
-use Rattle.templates.proofs.Laws.{put-inside}
-use Rattle.showing.proofs.by_kind.Goals as goal
-
-pub returns : goal.returns
-returns c = put-inside c.put.ensures (search rules)

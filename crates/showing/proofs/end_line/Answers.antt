@@ -1,7 +1,0 @@
--- `showing::end_line` meets its contract.
-use borrow.Author.Rules.{rules}
-use Rattle.templates.proofs.Laws.{put-inside}
-use Rattle.showing.proofs.end_line.Goals as goal
-
-pub returns : goal.returns
-returns c = put-inside c.put.ensures (search rules)
