@@ -25,7 +25,7 @@ fn two(n: u64, out: &mut [u8], at: usize) -> usize
     at + 2
 }
 
-// Four digits. Two of `two`, as `eight` is two of this: no const parameter can be half of another, and a loop over the digits is slower.
+// Four digits. Two of `two`, as `eight` is two of this, by a division for each half: no const parameter can be half of another.
 fn four(n: u64, out: &mut [u8], at: usize) -> usize
     requires { (n ≤ 9999) × (at + 4 ≤ length out.old) }
     ensures { Wrote (four_of n) out.old at out.new result }
