@@ -253,6 +253,7 @@ impl Code for LuldRefPriceTier {
 }
 
 // Yes, no or absent, as the short sale threshold and the IPO flag are.
+#[derive(Clone, Copy)]
 pub struct Flag {}
 
 impl Code for Flag {
@@ -333,6 +334,7 @@ impl Code for EtpFlag {
 }
 
 // Yes or no.
+#[derive(Clone, Copy)]
 pub struct YesNo {}
 
 impl Code for YesNo {
@@ -361,6 +363,7 @@ impl Code for YesNo {
 }
 
 // Whether a stock is in production, or a test.
+#[derive(Clone, Copy)]
 pub struct Authenticity {}
 
 impl Code for Authenticity {

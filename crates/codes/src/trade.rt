@@ -136,6 +136,7 @@ impl Code for CrossType {
 }
 
 // The crosses that an imbalance is told of: those but Intraday.
+#[derive(Clone, Copy)]
 pub struct ImbalanceCross {}
 
 impl Code for ImbalanceCross {

@@ -1,4 +1,6 @@
-// The stream's calls over a lent state: each hands the state to the call that takes it by value, and stores back what comes of it.
+// The stream's calls over a lent state. Each hands to the call that takes it by value the parts of the state that this looks at, with zero or false for the
+// others, and stores back the parts that it may change. The others are not touched, whatever they are. Copied as a whole, the state would be read in pieces
+// wider than those that the call before wrote, and a processor waits for these.
 #![tactic(auto)]
 
 ghost use Rattle.std.specs.Prelude.{◌≡◌, length};
@@ -8,23 +10,23 @@ ghost use Rattle.stream.specs.Told.{told_of, failed_of};
 ghost use Rattle.play.specs.Play.{play_of};
 
 use format::Reading;
-use stream::{Answer, Step, Stream};
-
-// Stores the state behind a call, and answers as the call did.
-fn store(step: Step, s: &mut Stream) -> Answer
-    ensures value { result ≡ step.answer }
-    ensures s_after { s.new ≡ step.state }
-{
-    *s = step.state;
-    step.answer
-}
+use stream::{Answer, Stream};
 
 // Next, by a reading: the message that stands first in the window, or why there is none.
 pub fn next(s: &mut Stream, buf: &[u8], reading: Reading) -> Answer
     ensures value { result ≡ (next_of reading s.old buf.now).answer }
     ensures s_after { s.new ≡ (next_of reading s.old buf.now).state }
 {
-    store(stream::next_of(*s, buf, reading), s)
+    let parts = Stream {
+        bytes_read: 0,
+        read_calls: 0,
+        ..*s
+    };
+    let step = stream::next_of(parts, buf, reading);
+    s.start = step.state.start;
+    s.messages = step.state.messages;
+    s.error = step.state.error;
+    step.answer
 }
 
 // Make room: where it is ready, the buffer from end onward is the caller's to fill.
@@ -33,7 +35,17 @@ pub fn make_room(s: &mut Stream, buf: &mut [u8]) -> Answer
     ensures s_after { s.new ≡ (room_of s.old (length buf.old)).state }
     ensures buf_after { buf.new ≡ room_buffer s.old buf.old }
 {
-    store(refill::make_room_of(*s, buf), s)
+    let parts = Stream {
+        bytes_read: 0,
+        messages: 0,
+        error: false,
+        ..*s
+    };
+    let step = refill::make_room_of(parts, buf);
+    s.start = step.state.start;
+    s.end = step.state.end;
+    s.read_calls = step.state.read_calls;
+    step.answer
 }
 
 // Told how many bytes the free part was filled with; none means that the input ended.
@@ -41,7 +53,16 @@ pub fn told(s: &mut Stream, n: usize) -> Answer
     ensures value { result ≡ (told_of s.old n).answer }
     ensures s_after { s.new ≡ (told_of s.old n).state }
 {
-    store(refill::told_of(*s, n), s)
+    let parts = Stream {
+        read_calls: 0,
+        messages: 0,
+        ..*s
+    };
+    let step = refill::told_of(parts, n);
+    s.end = step.state.end;
+    s.bytes_read = step.state.bytes_read;
+    s.error = step.state.error;
+    step.answer
 }
 
 // Told that the read failed.
@@ -49,7 +70,15 @@ pub fn told_failed(s: &mut Stream) -> Answer
     ensures value { result ≡ (failed_of s.old).answer }
     ensures s_after { s.new ≡ (failed_of s.old).state }
 {
-    store(refill::told_failed_of(*s), s)
+    let parts = Stream {
+        bytes_read: 0,
+        read_calls: 0,
+        messages: 0,
+        ..*s
+    };
+    let step = refill::told_failed_of(parts);
+    s.error = step.state.error;
+    step.answer
 }
 
 // How far the slice was played, and the answer.

@@ -1,11 +1,10 @@
 -- The bytes of a number: how many, in two parts, and where they are put.
 -- Assumes nothing.
 use mathlib.Core.Path.{◌≡◌, refl, sym, ap, ◌∙◌}
-use mathlib.Core.List.{List, [], ◌∷◌, ◌++◌}
-use Prim.Native.Nat.{ℕ, zero, suc, ◌+◌, ◌-◌, ◌/◌, ◌%◌, ◌<◌, ◌≤◌}
-use native.Mathlib.Nat.{add-zero, add-suc, suc-add}
+use mathlib.Core.List.{List, [], ◌∷◌, ◌++◌, append_assoc, append-nil}
+use Prim.Native.Nat.{ℕ, zero, suc, ◌+◌, ◌*◌, ◌^◌, ◌/◌, ◌%◌, ◌<◌, ◌≤◌}
+use native.Mathlib.Nat.{add-zero, add-suc, suc-add, pow-suc, div-one, div-div-eq-div-mul, mul_comm}
 use native.Mathlib.Numerals.{add-one}
-use native.Mathlib.Omega.{arith}
 use lib.ListN.{length, set, length-append}
 use lib.Seq.{sets}
 use borrow.Author.Tests.{le-leb, lt-leb}
@@ -32,16 +31,26 @@ pub put-not : (s : List ℕ) (at w v : ℕ) → length s < at + w → put_in s a
 unfolding put_in
 put-not s at w v h = rw (length_digits, lt-leb _ _ h)
 
--- a number stored in w bytes: all but the last, then the last; and in none
-pub digits_one_more : (l : List ℕ) (at w v : ℕ) {m : List ℕ} → 0 < w → m ≡ sets l at (digits (w - 1) (v / 256)) → set m (at + (w - 1)) (v % 256) ≡ sets l at (digits w v)
+-- a number of a + b bytes is its first a bytes and its last b
+two-parts : (a b v : ℕ) → digits a (v / 256 ^ b) ++ digits b v ≡ digits (a + b) v
 unfolding digits
-digits_one_more l at zero v h e = absurd (omega arith)
-digits_one_more l at (suc w) v h e =
-    let n : suc w - 1 ≡ w = omega arith in
-    rw n
-    (ap (λ k. set k (at + w) (v % 256)) (rw n at e) ∙ ap (λ k. set (sets l at (digits w (v / 256))) (at + k) (v % 256)) (sym (length_digits w (v / 256)))
-    ∙ sym (sets-append l at (digits w (v / 256)) (v % 256 ∷ [])))
+two-parts a zero v = append-nil (digits a (v / 1)) ∙ ap (digits a) (div-one v) ∙ ap (λ n. digits n v) (sym (add-zero a))
+two-parts a (suc b) v =
+    let y : v / (256 ^ b * 256) ≡ v / 256 / 256 ^ b = ap (λ n. v / n) (mul_comm (256 ^ b) 256) ∙ sym (div-div-eq-div-mul v 256 (256 ^ b)) in
+    rw (pow-suc, y, add-suc)
+    (sym (append_assoc (digits a (v / 256 / 256 ^ b)) (digits b (v / 256)) (v % 256 ∷ []))
+    ∙ ap (λ l. l ++ (v % 256 ∷ [])) (two-parts a b (v / 256)))
 
-pub digits_none : (l : List ℕ) (at w v : ℕ) → w ≡ 0 → l ≡ sets l at (digits w v)
+-- the first a bytes of a number stored, then its last b behind them: the number stored
+pub joins : (l : List ℕ) (at a b v : ℕ) {m u : List ℕ} → m ≡ sets l at (digits a (v / 256 ^ b)) → u ≡ sets m (at + a) (digits b v)
+    → u ≡ sets l at (digits (a + b) v)
+joins l at a b v e f =
+    let x : List ℕ = digits a (v / 256 ^ b) in
+    let y : List ℕ = digits b v in
+    f ∙ ap (λ r. sets r (at + a) y) e ∙ ap (λ n. sets (sets l at x) (at + n) y) (sym (length_digits a (v / 256 ^ b)))
+    ∙ sym (sets-append l at x y) ∙ ap (sets l at) (two-parts a b v)
+
+-- a number of one byte is that byte
+pub digits_one : (l : List ℕ) (at w v : ℕ) → w ≡ 1 → set l at (v % 256) ≡ sets l at (digits w v)
 unfolding digits
-digits_none l at w v e = rw e
+digits_one l at w v e = rw e

@@ -7,19 +7,51 @@
 
 ghost use Rattle.std.specs.Prelude.{◌≡◌, ◌+◌, ◌^◌, ◌<◌, ◌≤◌, length};
 ghost use Rattle.std.proofs.lemmas.List.Edits.{sets};
+ghost use Rattle.format.specs.Meaning.{IsWidth};
 ghost use Rattle.format.specs.Utf8.{well_formed};
 ghost use Rattle.pen.specs.Encode.{digits, put_in};
 
 use format::{Letters, Number};
 
-// The last w bytes of a number, in order.
+// The last two bytes of a number, in order. The wider ones are two narrower ones.
+fn put2(buf: &mut [u8], at: usize, v: u64)
+    requires { at + 2 ≤ length buf.old }
+    ensures { buf.new ≡ sets buf.old at (digits 2 v) }
+{
+    buf[at] = (v / 256 % 256) as u8;
+    buf[at + 1] = (v % 256) as u8;
+}
+
+// The last four bytes.
+fn put4(buf: &mut [u8], at: usize, v: u64)
+    requires { at + 4 ≤ length buf.old }
+    ensures { buf.new ≡ sets buf.old at (digits 4 v) }
+{
+    put2(buf, at, v / 65536);
+    put2(buf, at + 2, v);
+}
+
+// All eight.
+fn put8(buf: &mut [u8], at: usize, v: u64)
+    requires { at + 8 ≤ length buf.old }
+    ensures { buf.new ≡ sets buf.old at (digits 8 v) }
+{
+    put4(buf, at, v / 4294967296);
+    put4(buf, at + 4, v);
+}
+
+// The last w bytes. Compiled, each width is one store, which a loop over the bytes, or a call of itself for one byte fewer, is not. It is put into its caller
+// before anything else is done with it, so that the width is known then.
+#[inline(always)]
 fn put(buf: &mut [u8], at: usize, w: usize, v: u64)
-    requires { at + w ≤ length buf.old }
+    requires { (at + w ≤ length buf.old) × IsWidth w }
     ensures { buf.new ≡ sets buf.old at (digits w v) }
 {
-    if w > 0 {
-        put(buf, at, w - 1, v / 256);
-        buf[at + (w - 1)] = (v % 256) as u8;
+    match w {
+        8 => put8(buf, at, v),
+        4 => put4(buf, at, v),
+        2 => put2(buf, at, v),
+        _ => buf[at] = (v % 256) as u8,
     }
 }
 
@@ -41,7 +73,8 @@ pub fn set_u48(buf: &mut [u8], place: u8, v: u64)
 {
     let at = place as usize;
     if at + 6 <= buf.len() {
-        put(buf, at, 6, v);
+        put2(buf, at, v / 4294967296);
+        put4(buf, at + 2, v);
     }
 }
 

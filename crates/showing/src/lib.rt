@@ -367,12 +367,21 @@ pub fn show(rt: &(impl Env + Files), input: Stdin, output: Stdout, error: Stderr
 
 // ---- the program `cases`
 
-// The case at a place of the list, from a fresh stream on.
-fn one_case(list: &[u8], i: usize, reading: Reading, page: &mut Page) -> Result<(), NotTaken> {
+// The case between two places of the list, from a fresh stream on; the place behind it.
+fn one_case(
+    list: &[u8],
+    i: usize,
+    end: usize,
+    reading: Reading,
+    page: &mut Page,
+) -> Result<usize, NotTaken>
+    ensures { IfOk result (λ n. n ≡ end) }
+{
     let place = Place { i, left: 0 };
     let mut run = Run::fresh(reading);
     run.play(Case { list, place }, page)?;
-    page.end_line(run.last.state)
+    page.end_line(run.last.state)?;
+    Ok(end)
 }
 
 // The whole cases that a list begins with; the place behind them.
@@ -385,8 +394,7 @@ fn whole_cases(list: &[u8], reading: Reading, page: &mut Page) -> Result<usize, 
         if end <= i {
             return Ok(i);
         }
-        one_case(list, i, reading, page)?;
-        i = end;
+        i = one_case(list, i, end, reading, page)?;
     }
 }
 
