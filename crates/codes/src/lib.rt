@@ -52,7 +52,8 @@ pub trait Code {
 }
 
 // The code at a place, by its name: short where the window ends before it, and 2 with the place where the byte there is no code of the set. It is put into
-// each body that has such a field: compiled by itself, as a set with two places would be, it hands its answer on in memory, and makes the name where nobody asks for it.
+// each body that has such a field: left to the compiler, some sets have a function of their own, which hands its answer on in memory, and makes the name where
+// nobody asks for it.
 #[inline(always)]
 pub fn code_at<C: Code>(s: &[u8], place: u8) -> Result<C::Name, Fault>
     ensures { field_m C.byte result ≡ field (code C.set) s.now place }

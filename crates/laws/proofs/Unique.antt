@@ -67,6 +67,7 @@ pub field-unique : {A : Type 0} (value : A → ℕ) (back : ℕ → A) → ((x :
     → field_m value r ≡ field_m value r' → r ≡ r'
 field-unique value back h = one-to-one (field_m value) (field_from back) (field-back value back h)
 
+-- two answers whose values are told by these numbers, and which mean the same, are one
 abbrev pub OneName : {A : Type 0} → (A → ℕ) → Type 0
 OneName {A} value = (r r' : Result A Fault) → field_m value r ≡ field_m value r' → r ≡ r'
 
